@@ -6,10 +6,11 @@ pub use Rattle.std.proofs.Common.{append-nil, ◌-◌, ◌^◌, ◌<◌, ◌≤�
 pub use Rattle.std.proofs.Common.{suc, ◌+◌, inl, ⊎_elim, ◌&&◌, drop, get_or, length-append, codes, nat_le, nat_lt, take, nat_eq, w64}
 pub use Rattle.std.proofs.Common.{eqb-true, get_or-take, zero, ◌%◌, bytes_eq, not, slice_get, ◌*◌, inr, ℤ, pos, drop_of_length-le, leb-true}
 pub use Rattle.std.proofs.lemmas.List.{length-map, drop_all, get_or-append_right, get_or_append_left, map-append, drop_more, get_or-map}
+pub use Rattle.std.proofs.lemmas.List.Elements.{All-map, All-contains_itself, All-weaker}
 pub use Rattle.std.proofs.lemmas.List.Elements.{All-head, All-tail, All-filter, filter_passes, All-contains, Contains-append_cases}
 pub use Rattle.std.proofs.lemmas.List.Elements.{Contains-append_left, Contains-append_right, All-push, All-append, All-cons, All-nil}
 pub use Rattle.std.proofs.{Common.◌≢◌, Common.take_all, Common.rules, lemmas.Bool.and_parts, lemmas.Bool.cases_lt, lemmas.Bool.eqb-false}
-pub use Rattle.std.proofs.lemmas.{Bool.not-false, Bool.not-true, Bool.Decides.nat_tests, List.get_or_default}
+pub use Rattle.std.proofs.lemmas.{Bool.cond_both, Bool.not-false, Bool.not-true, Bool.Decides.nat_tests, List.get_or_default}
 pub use Rattle.std.proofs.lemmas.{List.Kept.AllPairs-filter, Result.err_from_is_err_and}
 pub use Rattle.ebc_base.specs.{Steps.◌>>=◌, Steps.or_else, Tables.is_named}
 pub use Rattle.ebc_width.specs.Width.{wrap64, signed_at}

@@ -1,50 +1,33 @@
 -- Bytes with others over them: how many there are, and which stand where.
-use Rattle.ebc_link.proofs.Common.{◌≡◌, ℕ, ◌+◌, ◌-◌, ◌<◌, ◌≤◌, cond, List, [], ◌∷◌, ◌++◌, length, get_or, take, drop, refl, sym, ap, subst}
-use Rattle.ebc_link.proofs.Common.{◌∙◌, arith, length-append, All, nat_eq, w64, to_le_bytes, eqb-true, nat_tests, drop_all, drop_more}
-use Rattle.ebc_link.proofs.Common.{get_or-append_right, get_or-take, get_or_append_left, All-filter, All-head, All-tail, filter_passes}
-use Rattle.ebc_link.proofs.Common.{wrap64, IsFixup, IsObject, section_bytes, width, Fixup, Object, Home, Laid, Definition, places_of}
-use Rattle.ebc_link.proofs.Common.{bytes_for, filled_section, in_section, put_at, value_of, with_fixups}
-use Rattle.std.proofs.{Common.length-drop, Common.length-take-le, lemmas.Bool.eq-eqb, lemmas.Bool.ne_eqb, lemmas.List.get_or-drop}
+use Rattle.ebc_link.proofs.Common.{suc, laid_objects, get_or, ◌≡◌, ℕ, ◌+◌, ◌<◌, ◌≤◌, List, [], ◌∷◌, length, refl, sym, subst, ◌∙◌}
+use Rattle.ebc_link.proofs.Common.{arith, All, nat_eq, w64, to_le_bytes, eqb-true, nat_tests, get_or-append_right}
+use Rattle.ebc_link.proofs.Common.{get_or-take, get_or_append_left, All-filter, filter_passes, wrap64, IsFixup, IsObject, section_bytes}
+use Rattle.ebc_link.proofs.Common.{width, Fixup, Object, Home, Laid, Definition, places_of, bytes_for, filled_section, in_section, put_at}
+use Rattle.ebc_link.proofs.Common.{value_of, with_fixups}
+use Rattle.ebc_link.proofs.StandLaws.{AreLong, laid_are}
+use Rattle.std.proofs.{lemmas.Grind.common_steps, Common.length-take-le, lemmas.List.get_or-drop}
 
 -- ---- bytes put over others
 
 pub put_length : (bytes : List ℕ) (at : ℕ) (over : List ℕ) → at + length over ≤ length bytes
     → length (put_at bytes at over) ≡ length bytes
 unfolding put_at
-put_length bytes at over within =
-    let front : length (take at bytes) ≡ at = length-take-le at bytes (omega (arith, within)) in
-    let back = length-drop (at + length over) bytes in
-    let one = length-append (take at bytes) (over ++ drop (at + length over) bytes) in
-    let two = length-append over (drop (at + length over) bytes) in
-    omega (arith, within, front, back, one, two)
+put_length bytes at over within = grind (arith, common_steps)
 
 pub put_before : (bytes : List ℕ) (at : ℕ) (over : List ℕ) (i : ℕ) → at + length over ≤ length bytes → i < at
     → get_or (put_at bytes at over) i 0 ≡ get_or bytes i 0
 unfolding put_at
-put_before bytes at over i within low =
-    let front : length (take at bytes) ≡ at = length-take-le at bytes (omega (arith, within)) in
-    get_or_append_left (take at bytes) (over ++ drop (at + length over) bytes) 0 i (omega (arith, front, low))
-    ∙ get_or-take at bytes i 0 low
+put_before bytes at over i within low = grind (arith, common_steps, get_or_append_left, get_or-take)
 
-pub put_inside : (bytes : List ℕ) (at : ℕ) (over : List ℕ) (i : ℕ) → at + length over ≤ length bytes → i < length over
-    → get_or (put_at bytes at over) (at + i) 0 ≡ get_or over i 0
+pub put_inside : (bytes : List ℕ) (at : ℕ) (over : List ℕ) (j : ℕ) → at + length over ≤ length bytes → j < length over
+    → get_or (put_at bytes at over) (at + j) 0 ≡ get_or over j 0
 unfolding put_at
-put_inside bytes at over i within low =
-    let front : length (take at bytes) ≡ at = length-take-le at bytes (omega (arith, within)) in
-    let same : at + i - at ≡ i = omega arith in
-    get_or-append_right (take at bytes) (over ++ drop (at + length over) bytes) at (at + i) 0 front (omega arith)
-    ∙ (ap (λ n. get_or (over ++ drop (at + length over) bytes) n 0) same
-    ∙ get_or_append_left over (drop (at + length over) bytes) 0 i low)
+put_inside bytes at over j within low = grind (arith, common_steps, get_or_append_left, get_or-append_right)
 
 pub put_behind : (bytes : List ℕ) (at : ℕ) (over : List ℕ) (i : ℕ) → at + length over ≤ length bytes → at + length over ≤ i
     → get_or (put_at bytes at over) i 0 ≡ get_or bytes i 0
 unfolding put_at
-put_behind bytes at over i within high =
-    let front : length (take at bytes) ≡ at = length-take-le at bytes (omega (arith, within)) in
-    let same : at + length over + (i - at - length over) ≡ i = omega (arith, high) in
-    get_or-append_right (take at bytes) (over ++ drop (at + length over) bytes) at i 0 front (omega (arith, high))
-    ∙ (get_or-append_right over (drop (at + length over) bytes) (length over) (i - at) 0 refl (omega (arith, high))
-    ∙ (get_or-drop (at + length over) bytes (i - at - length over) 0 ∙ ap (λ n. get_or bytes n 0) same))
+put_behind bytes at over i within high = grind (arith, common_steps, get_or-append_right, get_or-drop)
 
 -- ---- how long bytes are
 
@@ -60,12 +43,8 @@ pub length-with_fixups : (over : Fixup → List ℕ) (bytes : List ℕ) (fs : Li
 unfolding with_fixups
 length-with_fixups over bytes [] within = refl
 length-with_fixups over bytes (f ∷ fs) within =
-    let lies = λ (n : ℕ) (g : Fixup). g.offset + length (over g) ≤ n in
-    let here : length (put_at bytes f.offset (over f)) ≡ length bytes =
-    put_length bytes f.offset (over f) (All-head (lies (length bytes)) f fs within) in
-    length-with_fixups over (put_at bytes f.offset (over f)) fs
-    (λ i d inside. subst (λ n. lies n (get_or fs i d)) (sym here) (All-tail (lies (length bytes)) f fs within i d inside))
-    ∙ here
+    let here = put_length bytes f.offset (over f) (within 0 f (omega arith)) in
+    length-with_fixups over (put_at bytes f.offset (over f)) fs (λ i d inside. rw here (within (suc i) d (omega (arith, inside)))) ∙ here
 
 -- what holds of all holds of those of a section, and each of these is of it
 pub all-in_section : (P : Fixup → Type 0) (section : ℕ) (fs : List Fixup) → All P fs
@@ -93,38 +72,7 @@ length-filled section base ds l object =
     subst (λ n. f.offset + n ≤ length bytes) (sym (length-bytes_for base (places_of ds l) l.home f))
     (fixups_within l.object section object i d within))
 
--- ---- fixups filled in one after the other
-
--- the fixup of a number is filled in where it is of the section
-pub fill_more : (over : Fixup → List ℕ) (section : ℕ) (fs : List Fixup) (i : ℕ) (d : Fixup) (bytes new whole : List ℕ) → i < length fs
-    → (get_or fs i d).section ≡ section → new ≡ put_at bytes (get_or fs i d).offset (over (get_or fs i d))
-    → with_fixups over bytes (in_section section (drop i fs)) ≡ whole
-    → with_fixups over new (in_section section (drop (i + 1) fs)) ≡ whole
-unfolding with_fixups
-fill_more over section fs i d bytes new whole within is put before =
-    let f : Fixup = get_or fs i d in
-    let rest : List Fixup = in_section section (drop (i + 1) fs) in
-    let step : in_section section (drop i fs) ≡ cond (nat_eq f.section section) (f ∷ rest) rest =
-    ap (in_section section) (drop_more fs i d within) in
-    let here : in_section section (drop i fs) ≡ f ∷ rest = step ∙ ap (λ t. cond t (f ∷ rest) rest) (eq-eqb f.section section is) in
-    let same : with_fixups over bytes (in_section section (drop i fs)) ≡ with_fixups over (put_at bytes f.offset (over f)) rest =
-    ap (with_fixups over bytes) here in
-    ap (λ bs. with_fixups over bs rest) put ∙ (sym same ∙ before)
-
--- and one of another section is passed over
-pub fill_past : (over : Fixup → List ℕ) (section : ℕ) (fs : List Fixup) (i : ℕ) (d : Fixup) (bytes new whole : List ℕ) → i < length fs
-    → ((get_or fs i d).section ≡ section → ⊥) → new ≡ bytes → with_fixups over bytes (in_section section (drop i fs)) ≡ whole
-    → with_fixups over new (in_section section (drop (i + 1) fs)) ≡ whole
-fill_past over section fs i d bytes new whole within apart same before =
-    let f : Fixup = get_or fs i d in
-    let rest : List Fixup = in_section section (drop (i + 1) fs) in
-    let step : in_section section (drop i fs) ≡ cond (nat_eq f.section section) (f ∷ rest) rest =
-    ap (in_section section) (drop_more fs i d within) in
-    let here : in_section section (drop i fs) ≡ rest = step ∙ ap (λ t. cond t (f ∷ rest) rest) (ne_eqb f.section section apart) in
-    ap (λ bs. with_fixups over bs rest) same ∙ (sym (ap (with_fixups over bytes) here) ∙ before)
-
-pub fill_all : (over : Fixup → List ℕ) (section : ℕ) (fs : List Fixup) (i : ℕ) (bytes whole : List ℕ) → length fs ≤ i
-    → with_fixups over bytes (in_section section (drop i fs)) ≡ whole → bytes ≡ whole
-unfolding with_fixups
-fill_all over section fs i bytes whole past before =
-    sym (ap (λ gs. with_fixups over bytes (in_section section gs)) (drop_all i fs past)) ∙ before
+pub filled_long : (section base : ℕ) (ds : List Definition) (objects : List Object) → All IsObject objects
+    → AreLong section (filled_section section base ds) (laid_objects objects)
+filled_long section base ds objects all i d inside =
+    length-filled section base ds (get_or (laid_objects objects) i d) (laid_are objects all i d inside)

@@ -1,34 +1,32 @@
 -- The image that objects are linked to is in the linker's layout.
 use Rattle.ebc_link.proofs.Common.{◌≡◌, ℕ, ◌+◌, ◌%◌, ◌<◌, ◌≤◌, List, [], ◌∷◌, ◌++◌, length, get_or, refl, sym, ap, subst, ◌∙◌, arith, Ok}
-use Rattle.ebc_link.proofs.Common.{⊎_elim, cases_lt, All, codes, flat_map, All-append, All-cons, All-contains, All-nil, IsObject, Object}
-use Rattle.ebc_link.proofs.Common.{most, next_place, rounded, linked_sections, section_if, text_sections, laid, Image, Section, LinkPlan}
-use Rattle.ebc_link.proofs.Common.{IsPlan, Laid, code_end, code_start, contents_end, contents_start, homes_from, homes_of, laid_objects}
-use Rattle.ebc_link.proofs.Common.{laid_with, Definition, definitions, contents_of, relocs_in, relocs_of, IsEntry, links}
+use Rattle.ebc_link.proofs.Common.{cases_lt, All, codes, flat_map, All-append, All-cons, All-nil, IsObject, Object, most, next_place}
+use Rattle.ebc_link.proofs.Common.{rounded, linked_sections, section_if, text_sections, laid, Image, Section, LinkPlan, IsPlan, Laid}
+use Rattle.ebc_link.proofs.Common.{code_end, code_start, contents_end, contents_start, laid_objects, Definition, definitions, contents_of}
+use Rattle.ebc_link.proofs.Common.{relocs_in, relocs_of, IsEntry, links}
+use Rattle.ebc_link.proofs.{FillLaws.filled_long, StandLaws.length_by, StandLaws.laid_inside, StandLaws.laid_are, StandLaws.code_laid}
+use Rattle.ebc_link.proofs.{StandLaws.contents_laid, FoundLaws.entry_is, LinkLaws.made, RelocLaws.IsRun, RelocLaws.run_by}
+use Rattle.ebc_link.proofs.{RelocLaws.relocs_apart}
 use Rattle.std.proofs.lemmas.List.{get_or_past}
 use Rattle.std.specs.List.{Any}
 use Rattle.pe_image.specs.{Files.file_sections, Files.reloc_section, Files.reloc_sections, Linked.Has, Linked.IsLinked}
 use Rattle.pe_image.proofs.Held.{IsBytes, laid_byte}
 use Rattle.ebc_link.specs.{Layout.contents_from, Layout.text_from, Fixups.code_of, Links.linked_image}
-use Rattle.ebc_link.proofs.{FillLaws.length-filled, FoundLaws.entry_is, LaidLaws.laid_at, LinkLaws.made, RelocLaws.IsRun}
-use Rattle.ebc_link.proofs.{RelocLaws.code_run, RelocLaws.contents_run, RelocLaws.relocs_apart, StandLaws.Stands, StandLaws.length-contents}
-use Rattle.ebc_link.proofs.StandLaws.{length-text, stands}
 
 -- ---- how long code and data are
 
 pub text_ends : (base : ℕ) (ds : List Definition) (objects : List Object) → All IsObject objects
     → code_start + length (text_from (code_of base ds) code_start (laid_objects objects)) ≡ code_end code_start objects
-unfolding laid_objects homes_of
 text_ends base ds objects all =
-    length-text (code_of base ds) code_start (contents_start objects) objects
-    (λ o h object. length-filled 1 base ds (laid_at o h) object) all
+    length_by 1 (code_of base ds) code_start (code_end code_start objects) (laid_objects objects) (filled_long 1 base ds objects all)
+    (code_laid objects)
 
 pub contents_ends : (base : ℕ) (ds : List Definition) (objects : List Object) → All IsObject objects
     → contents_start objects + length (contents_from (contents_of base ds) (contents_start objects) (laid_objects objects))
     ≡ contents_end (contents_start objects) objects
-unfolding laid_objects homes_of
 contents_ends base ds objects all =
-    length-contents (contents_of base ds) code_start (contents_start objects) objects
-    (λ o h object. length-filled 2 base ds (laid_at o h) object) all
+    length_by 2 (contents_of base ds) (contents_start objects) (contents_end (contents_start objects) objects) (laid_objects objects)
+    (filled_long 2 base ds objects all) (contents_laid objects)
 
 -- ---- sections
 
@@ -71,10 +69,7 @@ bytes_if name flags place [] each = All-nil (λ (s : Section). IsBytes s.bytes)
 bytes_if name flags place (b ∷ bs) each = All-cons (λ (s : Section). IsBytes s.bytes) _ [] each (All-nil (λ (s : Section). IsBytes s.bytes))
 
 pub bytes_there : (xs : List ℕ) → ((i : ℕ) → i < length xs → get_or xs i 0 < 256) → IsBytes xs
-bytes_there xs each i = ⊎_elim
-    (λ within. each i within)
-    (λ past. subst (λ n. n < 256) (sym (get_or_past xs i 0 past)) (omega arith))
-    (cases_lt i (length xs))
+bytes_there xs each i = grind (arith, get_or_past, cases_lt)
 
 -- what stands in the sections of bytes is bytes
 pub bytes_laid : (text contents : List ℕ) → IsBytes text → IsBytes contents → (x : ℕ) → laid (linked_sections text contents) x < 256
@@ -100,24 +95,21 @@ relocs_inside : (objects : List Object) (text contents : List ℕ) (rest : List 
     → code_start + length text ≡ code_end code_start objects
     → contents_start objects + length contents ≡ contents_end (contents_start objects) objects
     → All (λ p. Any (Has p 8) (linked_sections text contents ++ rest)) (relocs_of (laid_objects objects))
-unfolding relocs_of laid_objects homes_of contents_start
+unfolding relocs_of contents_start
 relocs_inside objects text contents rest all ends behind =
     let start : ℕ = contents_start objects in
-    let ls : List Laid = laid_with objects (homes_from code_start start objects) in
+    let ls : List Laid = laid_objects objects in
     in_sections text contents rest (code_end code_start objects) start (contents_end start objects)
-    (flat_map (relocs_in 1) ls) (flat_map (relocs_in 2) ls) ends refl behind (code_run code_start start objects all)
-    (contents_run code_start start objects all)
+    (flat_map (relocs_in 1) ls) (flat_map (relocs_in 2) ls) ends refl behind
+    (run_by 1 code_start (code_end code_start objects) ls (laid_are objects all) (code_laid objects))
+    (run_by 2 start (contents_end start objects) ls (laid_are objects all) (contents_laid objects))
 
 -- ---- the entry
 
 pub entry_within : (objects : List Object) (name : List ℕ) (x : ℕ) → IsEntry (laid_objects objects) name x
     → (x % 2 ≡ 0) × (code_start ≤ x) × (x + 1 ≤ code_end code_start objects)
-unfolding laid_objects homes_of
 entry_within objects name x (l, s, there, own, defines, named, kind, even, within, is) =
-    let at : Stands code_start (contents_start objects) (code_end code_start objects) (contents_end (contents_start objects) objects) l =
-    All-contains (Stands code_start (contents_start objects) (code_end code_start objects) (contents_end (contents_start objects) objects))
-    (laid_with objects (homes_from code_start (contents_start objects) objects)) l
-    (stands code_start (contents_start objects) objects) there in
+    let at = laid_inside objects l there in
     (omega (arith, is, even, at.even), omega (arith, is, at.code_low), omega (arith, is, within, at.code_high))
 
 -- ---- all

@@ -1,6 +1,5 @@
 pub mod Common
 pub mod LaidLaws
-pub mod HomeLaws
 pub mod FirstLaws
 pub mod AgainLaws
 pub mod EndLaws

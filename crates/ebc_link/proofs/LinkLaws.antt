@@ -1,24 +1,12 @@
 -- What objects are linked to, by the tries in their order; and back.
 use Rattle.ebc_link.proofs.Common.{◌≡◌, ℕ, ◌≤◌, ◌<◌, Bool, true, false, List, [], Option, Some, None, Result, Ok, Err, refl, nat_le}
-use Rattle.ebc_link.proofs.Common.{leb-true, ◌>>=◌, or_else, most, Image, LinkEnd, LinkPlan, Laid, definitions, first_again, first_in}
-use Rattle.ebc_link.proofs.Common.{names_of, undefined_in, far_in, Entry, Fails, Far, Fault, Size, Twice, Undefined, entry_in, unless_some}
+use Rattle.ebc_link.proofs.Common.{leb-true, ◌>>=◌, or_else, most, Image, LinkPlan, Laid, definitions, first_again, first_in, names_of}
+use Rattle.ebc_link.proofs.Common.{undefined_in, far_in, Entry, Far, Fault, Size, Twice, Undefined, entry_in, unless_some}
 use Rattle.std.proofs.lemmas.Bool.{le-leb, lt-leb}
 use Rattle.ebc_base.specs.Steps.{passes}
 use Rattle.ebc_link.specs.Links.{linked_image, links_laid}
-use Rattle.ebc_link.proofs.EndLaws.{fails_first}
 
 -- ---- the first fault
-
-pub ends_twice : (plan : LinkPlan) (ls : List Laid) (contents : ℕ) (e : LinkEnd)
-    → Fails e (unless_some Twice (first_again [] (names_of (definitions ls)))) → Fails e (links_laid plan ls contents)
-unfolding links_laid
-ends_twice plan ls contents e h = fails_first Twice e (first_again [] (names_of (definitions ls))) _ h
-
-pub ends_undefined : (plan : LinkPlan) (ls : List Laid) (contents : ℕ) (e : LinkEnd)
-    → first_again [] (names_of (definitions ls)) ≡ None → Fails e (unless_some Undefined (first_in (undefined_in (definitions ls)) ls))
-    → Fails e (links_laid plan ls contents)
-unfolding links_laid
-ends_undefined plan ls contents e twice h = rw twice (fails_first Undefined e (first_in (undefined_in (definitions ls)) ls) _ h)
 
 -- No name is defined again, and none is undefined.
 pub record AreResolved (ls : List Laid) : Type 0 where
@@ -40,22 +28,18 @@ pub ends_size : (plan : LinkPlan) (ls : List Laid) (contents entry : ℕ) → Ar
     → links_laid plan ls contents ≡ Err Size
 unfolding links_laid
 ends_size plan ls contents entry resolved near enters large =
-    let long : nat_le (linked_image plan (definitions ls) ls contents entry).size most ≡ false =
-    lt-leb (linked_image plan (definitions ls) ls contents entry).size most large in
-    rw (resolved.twice, resolved.undefined, near, enters, long) refl
+    rw (resolved.twice, resolved.undefined, near, enters, lt-leb _ most large) refl
 
 pub ends_linked : (plan : LinkPlan) (ls : List Laid) (contents entry : ℕ) → AreResolved ls → first_in (far_in (definitions ls)) ls ≡ None
     → first_in (entry_in plan.entry) ls ≡ Some entry → (linked_image plan (definitions ls) ls contents entry).size ≤ most
     → links_laid plan ls contents ≡ Ok (linked_image plan (definitions ls) ls contents entry)
 unfolding links_laid
 ends_linked plan ls contents entry resolved near enters small =
-    let short : nat_le (linked_image plan (definitions ls) ls contents entry).size most ≡ true =
-    le-leb (linked_image plan (definitions ls) ls contents entry).size most small in
-    rw (resolved.twice, resolved.undefined, near, enters, short) refl
+    rw (resolved.twice, resolved.undefined, near, enters, le-leb _ most small) refl
 
 -- ---- an image
 
-unless_ok : {A Y : Type 0} → (fault : A → Fault) (o : Option A) (next : Unit {0} → Result Y Fault) (y : Y)
+pub unless_ok : {A Y : Type 0} → (fault : A → Fault) (o : Option A) (next : Unit {0} → Result Y Fault) (y : Y)
     → (unless_some fault o >>= next) ≡ Ok y → (o ≡ None) × (next tt ≡ Ok y)
 unless_ok fault None next y e = (refl, e)
 unless_ok fault (Some x) next y e = absurd cc

@@ -1,20 +1,20 @@
 -- What objects are linked to is a linked image.
-use Rattle.ebc_link.proofs.Common.{◌≡◌, ◌≢◌, ℕ, ◌+◌, ◌^◌, ◌<◌, ◌≤◌, ⊎_elim, Bool, true, not, List, [], length, get_or, None, Some, Ok, refl}
-use Rattle.ebc_link.proofs.Common.{sym, ap, subst, ◌∙◌, arith, All, nat_eq, slice_get, Contains, find, and_parts, cases_lt, eqb-false}
-use Rattle.ebc_link.proofs.Common.{not-false, not-true, All-contains, little_endian, IsFixup, IsObject, width, Fixup, Object, Symbol, most}
-use Rattle.ebc_link.proofs.Common.{laid, linked_sections, Image, LinkPlan, IsPlan, Laid, code_end, code_start, contents_end, contents_start}
-use Rattle.ebc_link.proofs.Common.{laid_objects, place_in, Definition, definitions, first_in, is_definition, places_of, symbol_place}
-use Rattle.ebc_link.proofs.Common.{contents_of, far_in, is_near, place_of, target_of, StandsAt, own_bytes, other, own, entry_in, links}
+use Rattle.ebc_link.proofs.Common.{nat_tests, ◌≡◌, ◌≢◌, ℕ, ◌+◌, ◌^◌, ◌<◌, ◌≤◌, Bool, true, not, List, length, get_or, None, Some, Ok, refl}
+use Rattle.ebc_link.proofs.Common.{sym, ap, subst, ◌∙◌, arith, All, slice_get, Contains, find, not-false, All-contains, little_endian}
+use Rattle.ebc_link.proofs.Common.{IsFixup, IsObject, width, Fixup, Object, Symbol, most, laid, linked_sections, Image, LinkPlan, IsPlan}
+use Rattle.ebc_link.proofs.Common.{Laid, code_end, code_start, contents_end, contents_start, laid_objects, place_in, Definition}
+use Rattle.ebc_link.proofs.Common.{definitions, first_in, is_definition, places_of, symbol_place, contents_of, far_in, is_near, place_of}
+use Rattle.ebc_link.proofs.Common.{target_of, StandsAt, other, own, entry_in, links}
+use Rattle.ebc_link.proofs.{StandLaws.laid_inside, StandLaws.object_of_laid, StandLaws.Stands, StandLaws.code_small}
+use Rattle.ebc_link.proofs.{StandLaws.contents_small, FoundLaws.entry_is, FoundLaws.first_nowhere, HoldLaws.contents_in, HoldLaws.holds}
+use Rattle.ebc_link.proofs.{HoldLaws.is_there, HoldLaws.spelled_there, HoldLaws.text_of, HoldLaws.was_there, HoldLaws.with_flags}
+use Rattle.ebc_link.proofs.{ImageLaws.contents_ends, ImageLaws.linked_layout, ImageLaws.text_ends, LinkLaws.AreResolved, LinkLaws.made}
+use Rattle.ebc_link.proofs.{OwnLaws.code_byte, OwnLaws.contents_byte, OwnLaws.own_byte, OwnLaws.zero_between, SymbolLaws.find_nowhere}
+use Rattle.ebc_link.proofs.{SymbolLaws.none_mapped, SymbolLaws.stands_at, SymbolLaws.target_is}
 use Rattle.std.proofs.lemmas.Option.{gets}
 use Rattle.ebc_base.proofs.Lists.{within_some}
 use Rattle.ebc_object.specs.Objects.{IsSymbol}
 use Rattle.ebc_link.specs.{Layout.contents_from, Layout.text_from, Fixups.code_of, Linked.IsFilled, Linked.Linked, Links.linked_image}
-use Rattle.ebc_link.proofs.{FoundLaws.entry_is, FoundLaws.first_nowhere, HoldLaws.contents_in, HoldLaws.holds, HoldLaws.is_there}
-use Rattle.ebc_link.proofs.{HoldLaws.spelled_there, HoldLaws.text_of, HoldLaws.was_there, HoldLaws.with_flags, ImageLaws.contents_ends}
-use Rattle.ebc_link.proofs.{ImageLaws.linked_layout, ImageLaws.text_ends, LinkLaws.AreResolved, LinkLaws.made, OwnLaws.code_byte}
-use Rattle.ebc_link.proofs.OwnLaws.{contents_byte, object_so, own_byte, stands_so, zero_between}
-use Rattle.ebc_link.proofs.{StandLaws.Stands, StandLaws.code_small, StandLaws.contents_small, SymbolLaws.find_nowhere}
-use Rattle.ebc_link.proofs.SymbolLaws.{none_mapped, stands_at, target_is}
 
 -- ---- places are small
 
@@ -28,28 +28,19 @@ own_small objects m t all few defined object at has =
     let symbol = All-contains (IsSymbol m.object.code m.object.contents) m.object.symbols t object.symbols has in
     let code = code_small code_start objects all in
     let contents = contents_small (contents_start objects) objects all in
-    ⊎_elim
-    (λ small.
-    let one : t.kind ≡ 1 = omega (arith, small, defined) in
-    let within : t.offset ≤ length m.object.code = subst (λ k. t.offset ≤ length (own_bytes m k)) one symbol.offset in
-    subst (λ k. place_in m.home k t.offset < 2 ^ 32) (sym one) (omega (arith, within, at.code_high, code, few)))
-    (λ large.
-    let two : t.kind ≡ 2 = omega (arith, large, symbol.kind) in
-    let within : t.offset ≤ length m.object.contents = subst (λ k. t.offset ≤ length (own_bytes m k)) two symbol.offset in
-    subst (λ k. place_in m.home k t.offset < 2 ^ 32) (sym two) (omega (arith, within, at.contents_high, contents, code, few)))
-    (cases_lt t.kind 2)
+    grind (arith, nat_tests)
 
 is_own : (t : Symbol) → is_definition t ≡ true → t.kind ≢ 0
-is_own t defines = eqb-false t.kind 0 (not-true (nat_eq t.kind 0) (and_parts (nat_eq t.global 1) (not (nat_eq t.kind 0)) defines).1)
+is_own t defines = grind (arith, nat_tests)
 
 place_small : (objects : List Object) (l : Laid) (s : Symbol) (place : ℕ) → All IsObject objects → length objects ≤ 256
     → Contains (laid_objects objects) l → Contains l.object.symbols s → StandsAt (laid_objects objects) l s place → place < 2 ^ 32
 place_small objects l s place all few there has (own kind is) =
     subst (λ p. p < 2 ^ 32) (sym is)
-    (own_small objects l s all few kind (object_so 0 [] objects all l there) (stands_so 0 [] objects all l there) has)
+    (own_small objects l s all few kind (object_of_laid objects l all there) (laid_inside objects l there) has)
 place_small objects l s place all few there has (other kind m t in_it has_it defines named is) =
     subst (λ p. p < 2 ^ 32) (sym is)
-    (own_small objects m t all few (is_own t defines) (object_so 0 [] objects all m in_it) (stands_so 0 [] objects all m in_it)
+    (own_small objects m t all few (is_own t defines) (object_of_laid objects m all in_it) (laid_inside objects m in_it)
     has_it)
 
 -- ---- a fixup
@@ -63,7 +54,7 @@ filled : (base : ℕ) (objects : List Object) (image : Image) (l : Laid) (f : Fi
 filled base objects image l f all few low resolved near sections there has =
     let ls : List Laid = laid_objects objects in
     let ds : List Definition = definitions ls in
-    let object = object_so base ds objects all l there in
+    let object = object_of_laid objects l all there in
     let fixup = All-contains (IsFixup l.object.code l.object.contents (length l.object.symbols)) l.object.fixups f object.fixups has in
     let symbol = within_some l.object.symbols f.symbol fixup.symbol in
     let s : Symbol = symbol.0 in
@@ -119,13 +110,16 @@ is_linked objects plan image all few is_plan e =
           base = refl;
           subsystem = refl;
           code = λ l there i within none.
-              code_byte base ds objects all l i there within ∙ own_byte 1 base ds l i (object_so base ds objects all l there) none;
+              code_byte base ds objects all l i there within ∙ own_byte 1 base ds l i (object_of_laid objects l all there) none;
           contents = λ l there i within none.
-              contents_byte base ds objects all l i there within ∙ own_byte 2 base ds l i (object_so base ds objects all l there) none;
+              contents_byte base ds objects all l i there within ∙ own_byte 2 base ds l i (object_of_laid objects l all there) none;
           between = zero_between base ds objects all;
           fixups = λ l f there has.
               filled base objects (linked_image plan ds (laid_objects objects) (contents_start objects) x) l f all few is_plan.small
               resolved near refl there has;
-          relocs = λ p. (is_there (laid_objects objects) p, was_there (laid_objects objects) (object_so base ds objects all) p);
+          relocs = λ p. (
+            is_there (laid_objects objects) p,
+            was_there (laid_objects objects) (λ l there. object_of_laid objects l all there) p,
+          );
           entry = entry;
         }

@@ -1,57 +1,23 @@
 -- The bytes of each object where it stands in the image that objects are linked to.
-use Rattle.ebc_link.proofs.Common.{◌≡◌, ℕ, ◌+◌, ◌<◌, ◌≤◌, inl, inr, ⊎_elim, Bool, true, false, List, [], ◌∷◌, length, get_or, sym, ap}
-use Rattle.ebc_link.proofs.Common.{subst, ◌∙◌, arith, All, nat_eq, nat_lt, Contains, list_any, cases_lt, nat_tests, All-cons, All-contains}
-use Rattle.ebc_link.proofs.Common.{All-head, All-nil, All-tail, AllPairs-filter, overlaid, EndsBefore, IsFixup, IsObject, width, Fixup}
-use Rattle.ebc_link.proofs.Common.{Object, rounded, linked_sections, laid, Home, Laid, code_end, code_start, contents_end, contents_start}
-use Rattle.ebc_link.proofs.Common.{homes_from, homes_of, laid_objects, laid_with, Definition, places_of, bytes_for, contents_of}
-use Rattle.ebc_link.proofs.Common.{filled_section, in_section, own_bytes, ArePacked}
+use Rattle.ebc_link.proofs.Common.{place_in, ◌-◌, refl, ◌≡◌, ℕ, ◌+◌, ◌<◌, ◌≤◌, inl, inr, ⊎_elim, Bool, true, false, List, [], ◌∷◌, length}
+use Rattle.ebc_link.proofs.Common.{get_or, sym, ap, subst, ◌∙◌, arith, All, nat_eq, Contains, list_any, nat_tests, All-cons, All-nil}
+use Rattle.ebc_link.proofs.Common.{AllPairs-filter, overlaid, EndsBefore, IsFixup, IsObject, width, Fixup, Object, rounded, linked_sections}
+use Rattle.ebc_link.proofs.Common.{laid, Laid, code_end, code_start, contents_end, contents_start, laid_objects, Definition, places_of}
+use Rattle.ebc_link.proofs.Common.{bytes_for, contents_of, filled_section, in_section, own_bytes, ArePacked}
+use Rattle.std.specs.Prelude.{slice_index}
 use Rattle.std.proofs.{Common.◌⊎◌, lemmas.Bool.or_parts}
 use Rattle.ebc_width.proofs.ByteLaws.{overlaid-apart, overlaid-within}
 use Rattle.ebc_link.specs.{Layout.contents_from, Layout.text_from, Fixups.code_of, Linked.IsOutside, Linked.fills}
-use Rattle.ebc_link.proofs.BytesLaws.{LieIn, at_object, between_objects, filled_at, laid_linked}
+use Rattle.ebc_link.proofs.{BytesLaws.LieIn, BytesLaws.at_object, BytesLaws.between_objects, BytesLaws.filled_at, BytesLaws.laid_linked}
 use Rattle.ebc_link.proofs.{BytesLaws.unfilled, FillLaws.all-in_section, FillLaws.fixups_within, FillLaws.length-bytes_for}
-use Rattle.ebc_link.proofs.{FillLaws.length-filled, ImageLaws.contents_ends, ImageLaws.text_ends, LaidLaws.laid_at, StandLaws.Stands}
-use Rattle.ebc_link.proofs.{StandLaws.stands, ThereLaws.kept}
+use Rattle.ebc_link.proofs.{FillLaws.length-filled, FillLaws.filled_long, ImageLaws.contents_ends, ImageLaws.text_ends, StandLaws.packed_by}
+use Rattle.ebc_link.proofs.{StandLaws.laid_inside, StandLaws.object_of_laid, StandLaws.code_laid, StandLaws.contents_laid, ThereLaws.kept}
 
--- ---- objects are packed
-
-pub packed_code : (bytes : Laid → List ℕ) (code contents : ℕ) (os : List Object)
-    → ((o : Object) (h : Home) → IsObject o → length (bytes (laid_at o h)) ≡ length o.code) → All IsObject os
-    → ArePacked 1 bytes code (laid_with os (homes_from code contents os))
-unfolding homes_from
-packed_code bytes code contents [] long objects = tt
-packed_code bytes code contents (o ∷ os) long objects =
-    let h : Home = record { code = rounded 2 code; contents = rounded 8 contents } in
-    let d : ℕ = rounded 8 contents + length o.contents in
-    let ls : List Laid = laid_with os (homes_from (rounded 2 code + length o.code) d os) in (
-      omega arith,
-      subst (λ n. ArePacked 1 bytes (rounded 2 code + n) ls) (sym (long o h (All-head IsObject o os objects)))
-          (packed_code bytes (rounded 2 code + length o.code) d os long (All-tail IsObject o os objects)),
-    )
-
-pub packed_contents : (bytes : Laid → List ℕ) (code contents : ℕ) (os : List Object)
-    → ((o : Object) (h : Home) → IsObject o → length (bytes (laid_at o h)) ≡ length o.contents) → All IsObject os
-    → ArePacked 2 bytes contents (laid_with os (homes_from code contents os))
-unfolding homes_from
-packed_contents bytes code contents [] long objects = tt
-packed_contents bytes code contents (o ∷ os) long objects =
-    let h : Home = record { code = rounded 2 code; contents = rounded 8 contents } in
-    let c : ℕ = rounded 2 code + length o.code in
-    let ls : List Laid = laid_with os (homes_from c (rounded 8 contents + length o.contents) os) in (
-      omega arith,
-      subst (λ n. ArePacked 2 bytes (rounded 8 contents + n) ls) (sym (long o h (All-head IsObject o os objects)))
-          (packed_contents bytes c (rounded 8 contents + length o.contents) os long (All-tail IsObject o os objects)),
-    )
-
-pub objects_laid : (os : List Object) (hs : List Home) (l : Laid) → All IsObject os → Contains (laid_with os hs) l → IsObject l.object
-objects_laid os hs l objects there = All-contains (λ (m : Laid). IsObject m.object) (laid_with os hs) l (each os hs objects) there
-  where
-    each : (ps : List Object) (gs : List Home) → All IsObject ps → All (λ (m : Laid). IsObject m.object) (laid_with ps gs)
-    each [] gs all = All-nil (λ (m : Laid). IsObject m.object)
-    each (p ∷ ps) [] all = All-nil (λ (m : Laid). IsObject m.object)
-    each (p ∷ ps) (g ∷ gs) all =
-        All-cons (λ (m : Laid). IsObject m.object) (laid_at p g) (laid_with ps gs) (All-head IsObject p ps all)
-        (each ps gs (All-tail IsObject p ps all))
+-- zeros stand where neither these bytes nor those below them are others
+overlaid_none : (f : ℕ → ℕ) (place : ℕ) (bytes : List ℕ) (x : ℕ) → f x ≡ 0
+    → (place ≤ x → x < place + length bytes → slice_index bytes (x - place) ≡ 0) → overlaid f place bytes x ≡ 0
+unfolding overlaid
+overlaid_none f place bytes x out inside = grind (arith, nat_tests)
 
 -- ---- the image of objects, for a base
 
@@ -66,37 +32,23 @@ module _ (base : ℕ) (ds : List Definition) (objects : List Object) (all : All 
   unfolding contents_start
   starts_behind = ap (rounded 0x1000) (text_ends base ds objects all)
 
-  pub stands_so : (l : Laid) → Contains (laid_objects objects) l
-      → Stands code_start (contents_start objects) (code_end code_start objects) (contents_end (contents_start objects) objects) l
-  unfolding laid_objects homes_of
-  stands_so l there =
-      let start : ℕ = contents_start objects in
-      All-contains (Stands code_start start (code_end code_start objects) (contents_end start objects))
-      (laid_with objects (homes_from code_start start objects)) l (stands code_start start objects) there
-
-  pub object_so : (l : Laid) → Contains (laid_objects objects) l → IsObject l.object
-  unfolding laid_objects
-  object_so l there = objects_laid objects (homes_of objects) l all there
-
   pub code_packed : ArePacked 1 (code_of base ds) code_start (laid_objects objects)
-  unfolding laid_objects homes_of
   code_packed =
-      packed_code (code_of base ds) code_start (contents_start objects) objects
-      (λ o h object. length-filled 1 base ds (laid_at o h) object) all
+      packed_by 1 (code_of base ds) code_start (code_end code_start objects) (laid_objects objects) (filled_long 1 base ds objects all)
+      (code_laid objects)
 
   pub contents_packed : ArePacked 2 (contents_of base ds) (contents_start objects) (laid_objects objects)
-  unfolding laid_objects homes_of
   contents_packed =
-      packed_contents (contents_of base ds) code_start (contents_start objects) objects
-      (λ o h object. length-filled 2 base ds (laid_at o h) object) all
+      packed_by 2 (contents_of base ds) (contents_start objects) (contents_end (contents_start objects) objects) (laid_objects objects)
+      (filled_long 2 base ds objects all) (contents_laid objects)
 
   -- what stands in the code of an object
   pub code_byte : (l : Laid) (i : ℕ) → Contains (laid_objects objects) l → i < length l.object.code
       → laid (linked_sections text contents) (l.home.code + i) ≡ get_or (code_of base ds l) i 0
   code_byte l i there within =
-      let at = stands_so l there in
+      let at = laid_inside objects l there in
       let ends = text_ends base ds objects all in
-      let long = length-filled 1 base ds l (object_so l there) in
+      let long = length-filled 1 base ds l (object_of_laid objects l all there) in
       laid_linked text contents (l.home.code + i)
       ∙ (overlaid-within (overlaid (λ y. 0) (rounded 0x1000 (0x1000 + length text)) contents) 0x1000 text (l.home.code + i)
       (omega (arith, at.code_low)) (omega (arith, within, at.code_high, ends))
@@ -106,10 +58,10 @@ module _ (base : ℕ) (ds : List Definition) (objects : List Object) (all : All 
   pub contents_byte : (l : Laid) (i : ℕ) → Contains (laid_objects objects) l → i < length l.object.contents
       → laid (linked_sections text contents) (l.home.contents + i) ≡ get_or (contents_of base ds l) i 0
   contents_byte l i there within =
-      let at = stands_so l there in
+      let at = laid_inside objects l there in
       let ends = text_ends base ds objects all in
       let behind = contents_ends base ds objects all in
-      let long = length-filled 2 base ds l (object_so l there) in
+      let long = length-filled 2 base ds l (object_of_laid objects l all there) in
       laid_linked text contents (l.home.contents + i)
       ∙ (ap (λ p. overlaid (overlaid (λ y. 0) p contents) 0x1000 text (l.home.contents + i)) starts_behind
       ∙ (overlaid-apart (overlaid (λ y. 0) (contents_start objects) contents) 0x1000 text (l.home.contents + i)
@@ -119,34 +71,24 @@ module _ (base : ℕ) (ds : List Definition) (objects : List Object) (all : All 
       ∙ at_object 2 (contents_of base ds) (contents_start objects) (laid_objects objects) l i contents_packed there
       (omega (arith, within, long)))))
 
+  -- and so in either
+  pub section_byte : (l : Laid) (section i : ℕ) → (section ≡ 1) ⊎ (section ≡ 2) → Contains (laid_objects objects) l
+      → i < length (own_bytes l section)
+      → laid (linked_sections text contents) (place_in l.home section i) ≡ get_or (filled_section section base ds l) i 0
+  section_byte l section i (inl one) there = rw one (code_byte l i there)
+  section_byte l section i (inr two) there = rw two (contents_byte l i there)
+
   -- zeros stand where no object does
   pub zero_between : (x : ℕ) → ((l : Laid) → Contains (laid_objects objects) l → IsOutside x l) → laid (linked_sections text contents) x ≡ 0
   zero_between x outside =
-      let ends = text_ends base ds objects all in
-      let behind = contents_ends base ds objects all in
       laid_linked text contents x
-      ∙ (ap (λ p. overlaid (overlaid (λ y. 0) p contents) 0x1000 text x) starts_behind
-      ∙ ⊎_elim
-      (λ low. overlaid-apart (overlaid (λ y. 0) (contents_start objects) contents) 0x1000 text x (inl low)
-      ∙ overlaid-apart (λ y. 0) (contents_start objects) contents x (inl (omega (arith, low, starts_behind))))
-      (λ from. ⊎_elim
-      (λ in_it. overlaid-within (overlaid (λ y. 0) (contents_start objects) contents) 0x1000 text x from in_it
-      ∙ between_objects 1 (code_of base ds) code_start (laid_objects objects) x code_packed from
-      (λ l there. let long = length-filled 1 base ds l (object_so l there) in
-      ⊎_elim (λ low. inl low) (λ high. inr (omega (arith, high, long))) (outside l there).0))
-      (λ past. overlaid-apart (overlaid (λ y. 0) (contents_start objects) contents) 0x1000 text x (inr past)
-      ∙ ⊎_elim
-      (λ low. overlaid-apart (λ y. 0) (contents_start objects) contents x (inl low))
-      (λ begun. ⊎_elim
-      (λ in_it. overlaid-within (λ y. 0) (contents_start objects) contents x begun in_it
-      ∙ between_objects 2 (contents_of base ds) (contents_start objects) (laid_objects objects) x contents_packed begun
-      (λ l there. let long = length-filled 2 base ds l (object_so l there) in
-      ⊎_elim (λ low. inl low) (λ high. inr (omega (arith, high, long))) (outside l there).1))
-      (λ beyond. overlaid-apart (λ y. 0) (contents_start objects) contents x (inr beyond))
-      (cases_lt x (contents_start objects + length contents)))
-      (cases_lt x (contents_start objects)))
-      (cases_lt x (0x1000 + length text)))
-      (cases_lt x 0x1000))
+      ∙ overlaid_none (overlaid (λ y. 0) (rounded 0x1000 (0x1000 + length text)) contents) 0x1000 text x
+      (rw starts_behind
+      (overlaid_none (λ y. 0) (contents_start objects) contents x refl
+      (λ low high. between_objects 2 (contents_of base ds) (contents_start objects) (laid_objects objects) x contents_packed low
+      (λ l there. rw (length-filled 2 base ds l (object_of_laid objects l all there)) (outside l there).1))))
+      (λ low high. between_objects 1 (code_of base ds) code_start (laid_objects objects) x code_packed low
+      (λ l there. rw (length-filled 1 base ds l (object_of_laid objects l all there)) (outside l there).0))
 
 -- ---- the bytes of a section, with its fixups
 
@@ -157,13 +99,7 @@ any_none p (x ∷ xs) e =
 
 not_filled : (section i : ℕ) (f : Fixup) (n : ℕ) → fills section i f ≡ false → f.section ≡ section → n ≡ width f.kind
     → (i < f.offset) ⊎ (f.offset + n ≤ i)
-not_filled section i f n free is wide = ⊎_elim
-    (λ low. inl low)
-    (λ from. inr (let e : nat_lt i (f.offset + width f.kind) ≡ false = passed from in grind (arith, nat_tests)))
-    (cases_lt i f.offset)
-  where
-    passed : f.offset ≤ i → nat_lt i (f.offset + width f.kind) ≡ false
-    passed from = grind (arith, nat_tests)
+not_filled section i f n free is wide = grind (arith, nat_tests)
 
 lie_so : (section base : ℕ) (ds : List Definition) (l : Laid) → IsObject l.object
     → LieIn (bytes_for base (places_of ds l) l.home) (length (own_bytes l section)) (in_section section l.object.fixups)

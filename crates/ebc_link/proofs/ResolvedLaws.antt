@@ -1,7 +1,7 @@
 -- The object of a number, with its home and the places of its symbols.
-use Rattle.ebc_link.proofs.Common.{◌≡◌, ℕ, ◌<◌, List, length, get_or, not, Option, sym, ap, subst, ◌∙◌, arith, find, option_map}
-use Rattle.ebc_link.proofs.Common.{get_or_default, length-map, IsObject, Fixup, Object, Home, Resolved, Definition, places_of, symbol_place}
-use Rattle.ebc_link.proofs.Common.{far_in, is_near, place_of, IsLow, IsResolved, defined_in, laid_of}
+use Rattle.ebc_link.proofs.Common.{◌≡◌, ℕ, ◌<◌, List, length, get_or, not, Option, sym, ap, ◌∙◌, find, option_map}
+use Rattle.ebc_link.proofs.Common.{get_or_default, length-map, Fixup, Object, Home, Resolved, Definition, places_of, symbol_place}
+use Rattle.ebc_link.proofs.Common.{far_in, is_near, place_of, IsResolved, defined_in, laid_of}
 use Rattle.ebc_link.specs.declared.piece.Piece.{Piece}
 use Rattle.ebc_link.proofs.LaidLaws.{IsAt, laid_at, made_at}
 
@@ -14,12 +14,6 @@ is_at r i d h resolved within stands =
       object = get_or_default r.objects.now i d (get_or r.objects.now i d) within;
       home = stands;
     }
-
-pub object_at : (r : Resolved) (i : ℕ) (d : Object) → IsResolved r → i < length r.objects.now → IsObject (get_or r.objects.now i d)
-object_at r i d resolved within = resolved.objects i d within
-
-pub low_at : (r : Resolved) (i : ℕ) (h : Home) → IsResolved r → i < length r.objects.now → h ≡ get_or r.homes.items i h → IsLow h
-low_at r i h resolved within is = subst IsLow (sym is) (resolved.low i h (omega (arith, within, resolved.homes)))
 
 pub places_at : (r : Resolved) (i : ℕ) (d : Object) (h : Home) (ps qs : List ℕ) → IsResolved r → i < length r.objects.now
     → h ≡ get_or r.homes.items i h → ps ≡ qs → qs ≡ get_or r.places.items i qs

@@ -1,8 +1,9 @@
 -- Where objects stand: in order, each behind the ones before.
-use Rattle.ebc_link.proofs.Common.{◌≡◌, ℕ, suc, ◌+◌, ◌-◌, ◌*◌, ◌%◌, ◌≤◌, List, [], ◌∷◌, ◌++◌, length, refl, ap, ◌∙◌, arith, length-append}
-use Rattle.ebc_link.proofs.Common.{All, All-cons, All-head, All-nil, All-tail, IsObject, Object, rounded, zeros, Home, Laid, code_end}
-use Rattle.ebc_link.proofs.Common.{contents_end, homes_from, laid_with, section_from}
-use Rattle.std.proofs.lemmas.List.{length-replicate, Elements.All-weaker}
+use Rattle.ebc_link.proofs.Common.{own_bytes, start_of, ArePacked, Contains, All-contains, laid_objects, homes_of, code_start}
+use Rattle.ebc_link.proofs.Common.{contents_start, ◌≡◌, ℕ, suc, ◌+◌, ◌-◌, ◌*◌, ◌%◌, ◌≤◌, List, [], ◌∷◌, length, refl, ap, arith}
+use Rattle.ebc_link.proofs.Common.{length-append, All, All-cons, All-head, All-nil, All-tail, IsObject, Object, rounded, zeros, Home, Laid}
+use Rattle.ebc_link.proofs.Common.{code_end, contents_end, homes_from, laid_with, section_from}
+use Rattle.std.proofs.{lemmas.List.length-replicate, lemmas.List.Elements.All-weaker}
 use Rattle.ebc_object.specs.Objects.{most}
 use Rattle.ebc_link.proofs.LaidLaws.{laid_at}
 
@@ -45,16 +46,6 @@ pub record Stands (code contents code_last contents_last : ℕ) (l : Laid) : Typ
   pub contents_low : contents ≤ l.home.contents
   pub contents_high : l.home.contents + length l.object.contents ≤ contents_last
 
-lower : (c d m n a b : ℕ) (l : Laid) → a ≤ c → b ≤ d → Stands c d m n l → Stands a b m n l
-lower c d m n a b l low contents_low s =
-    record {
-      even = s.even;
-      code_low = omega (arith, low, s.code_low);
-      code_high = s.code_high;
-      contents_low = omega (arith, contents_low, s.contents_low);
-      contents_high = s.contents_high;
-    }
-
 pub stands : (code contents : ℕ) (os : List Object)
     → All (Stands code contents (code_end code os) (contents_end contents os)) (laid_with os (homes_from code contents os))
 unfolding homes_from code_end contents_end
@@ -63,55 +54,92 @@ stands code contents (o ∷ os) =
     let c : ℕ = rounded 2 code + length o.code in
     let d : ℕ = rounded 8 contents + length o.contents in
     let l : Laid = laid_at o (record { code = rounded 2 code; contents = rounded 8 contents }) in
-    let here : Stands code contents (code_end c os) (contents_end d os) l =
-    record {
-      even = omega arith;
-      code_low = omega arith;
-      code_high = code_grows c os;
-      contents_low = omega arith;
-      contents_high = contents_grow d os;
-    } in
-    All-cons (Stands code contents (code_end c os) (contents_end d os)) l (laid_with os (homes_from c d os)) here
-    (All-weaker (Stands c d (code_end c os) (contents_end d os)) (Stands code contents (code_end c os) (contents_end d os))
-    (λ m s. lower c d (code_end c os) (contents_end d os) code contents m (omega arith) (omega arith) s)
-    (laid_with os (homes_from c d os)) (stands c d os))
+    let Here : Laid → Type 0 = Stands code contents (code_end c os) (contents_end d os) in
+    All-cons Here l (laid_with os (homes_from c d os)) (grind (arith, code_grows c os, contents_grow d os))
+    (All-weaker (Stands c d (code_end c os) (contents_end d os)) Here (λ m s. grind arith) (laid_with os (homes_from c d os))
+    (stands c d os))
 
 -- ---- how long the sections are
 
-pub length-text : (bytes : Laid → List ℕ) (code contents : ℕ) (os : List Object)
-    → ((o : Object) (h : Home) → IsObject o → length (bytes (laid_at o h)) ≡ length o.code) → All IsObject os
-    → code + length (section_from 1 bytes code (laid_with os (homes_from code contents os))) ≡ code_end code os
-unfolding homes_from code_end section_from
-length-text bytes code contents [] long objects = omega arith
-length-text bytes code contents (o ∷ os) long objects =
-    let h : Home = record { code = rounded 2 code; contents = rounded 8 contents } in
-    let here : length (bytes (laid_at o h)) ≡ length o.code = long o h (All-head IsObject o os objects) in
-    let d : ℕ = rounded 8 contents + length o.contents in
-    let ls : List Laid = laid_with os (homes_from (rounded 2 code + length o.code) d os) in
-    let rest : List ℕ = section_from 1 bytes (rounded 2 code + length (bytes (laid_at o h))) ls in
-    let later : rounded 2 code + length o.code + length rest ≡ code_end (rounded 2 code + length o.code) os =
-    ap (λ n. rounded 2 code + length o.code + length (section_from 1 bytes (rounded 2 code + n) ls)) here
-    ∙ length-text bytes (rounded 2 code + length o.code) d os long (All-tail IsObject o os objects) in
-    let gap = length-append (zeros (rounded 2 code - code)) (bytes (laid_at o h) ++ rest) in
-    let filling = length-replicate {A = ℕ} (rounded 2 code - code) 0 in
-    let both = length-append (bytes (laid_at o h)) rest in
-    omega (arith, here, later, gap, filling, both)
+-- The code of objects, by number 1, or their data, by 2, stand in their order from a place on, and end at another.
+abbrev pub Chain : ℕ → ℕ → List Laid → ℕ → Type 0
+Chain section from [] to = from ≡ to
+Chain section from (l ∷ ls) to =
+    (from ≤ start_of l.home section) × Chain section (start_of l.home section + length (own_bytes l section)) ls to
 
-pub length-contents : (bytes : Laid → List ℕ) (code contents : ℕ) (os : List Object)
-    → ((o : Object) (h : Home) → IsObject o → length (bytes (laid_at o h)) ≡ length o.contents) → All IsObject os
-    → contents + length (section_from 2 bytes contents (laid_with os (homes_from code contents os))) ≡ contents_end contents os
-unfolding homes_from contents_end section_from
-length-contents bytes code contents [] long objects = omega arith
-length-contents bytes code contents (o ∷ os) long objects =
-    let h : Home = record { code = rounded 2 code; contents = rounded 8 contents } in
-    let here : length (bytes (laid_at o h)) ≡ length o.contents = long o h (All-head IsObject o os objects) in
-    let c : ℕ = rounded 2 code + length o.code in
-    let ls : List Laid = laid_with os (homes_from c (rounded 8 contents + length o.contents) os) in
-    let rest : List ℕ = section_from 2 bytes (rounded 8 contents + length (bytes (laid_at o h))) ls in
-    let later : rounded 8 contents + length o.contents + length rest ≡ contents_end (rounded 8 contents + length o.contents) os =
-    ap (λ n. rounded 8 contents + length o.contents + length (section_from 2 bytes (rounded 8 contents + n) ls)) here
-    ∙ length-contents bytes c (rounded 8 contents + length o.contents) os long (All-tail IsObject o os objects) in
-    let gap = length-append (zeros (rounded 8 contents - contents)) (bytes (laid_at o h) ++ rest) in
-    let filling = length-replicate {A = ℕ} (rounded 8 contents - contents) 0 in
-    let both = length-append (bytes (laid_at o h)) rest in
-    omega (arith, here, later, gap, filling, both)
+pub code_chain : (code contents : ℕ) (os : List Object) → Chain 1 code (laid_with os (homes_from code contents os)) (code_end code os)
+unfolding homes_from code_end
+code_chain code contents [] = refl
+code_chain code contents (o ∷ os) =
+    (omega arith, code_chain (rounded 2 code + length o.code) (rounded 8 contents + length o.contents) os)
+
+pub contents_chain : (code contents : ℕ) (os : List Object)
+    → Chain 2 contents (laid_with os (homes_from code contents os)) (contents_end contents os)
+unfolding homes_from contents_end
+contents_chain code contents [] = refl
+contents_chain code contents (o ∷ os) =
+    (omega arith, contents_chain (rounded 2 code + length o.code) (rounded 8 contents + length o.contents) os)
+
+laid_all : (os : List Object) (hs : List Home) → All IsObject os → All (λ (l : Laid). IsObject l.object) (laid_with os hs)
+laid_all [] hs all = All-nil (λ (l : Laid). IsObject l.object)
+laid_all (o ∷ os) [] all = All-nil (λ (l : Laid). IsObject l.object)
+laid_all (o ∷ os) (h ∷ hs) all =
+    All-cons (λ (l : Laid). IsObject l.object) (laid_at o h) (laid_with os hs) (All-head IsObject o os all)
+    (laid_all os hs (All-tail IsObject o os all))
+
+-- ---- objects that are linked
+
+-- An object stands in the sections.
+abbrev pub IsInside : List Object → Laid → Type 0
+IsInside objects l =
+    Stands code_start (contents_start objects) (code_end code_start objects) (contents_end (contents_start objects) objects) l
+
+pub laid_inside : (objects : List Object) (l : Laid) → Contains (laid_objects objects) l → IsInside objects l
+unfolding laid_objects homes_of
+laid_inside objects l there =
+    All-contains (IsInside objects) (laid_with objects (homes_from code_start (contents_start objects) objects)) l
+    (stands code_start (contents_start objects) objects) there
+
+pub laid_are : (objects : List Object) → All IsObject objects → All (λ (l : Laid). IsObject l.object) (laid_objects objects)
+unfolding laid_objects
+laid_are objects all = laid_all objects (homes_of objects) all
+
+pub object_of_laid : (objects : List Object) (l : Laid) → All IsObject objects → Contains (laid_objects objects) l → IsObject l.object
+object_of_laid objects l all there = All-contains (λ (m : Laid). IsObject m.object) (laid_objects objects) l (laid_are objects all) there
+
+pub code_laid : (objects : List Object) → Chain 1 code_start (laid_objects objects) (code_end code_start objects)
+unfolding laid_objects homes_of
+code_laid objects = code_chain code_start (contents_start objects) objects
+
+pub contents_laid : (objects : List Object)
+    → Chain 2 (contents_start objects) (laid_objects objects) (contents_end (contents_start objects) objects)
+unfolding laid_objects homes_of
+contents_laid objects = contents_chain code_start (contents_start objects) objects
+
+pub chain_grows : (section from to : ℕ) (ls : List Laid) → Chain section from ls to → from ≤ to
+chain_grows section from to [] chain = omega arith
+chain_grows section from to (l ∷ ls) chain =
+    omega (arith, chain.0, chain_grows section (start_of l.home section + length (own_bytes l section)) to ls chain.1)
+
+-- Bytes of objects are as many as those of their sections.
+abbrev pub AreLong : ℕ → (Laid → List ℕ) → List Laid → Type 0
+AreLong section bytes ls = All (λ (l : Laid). length (bytes l) ≡ length (own_bytes l section)) ls
+
+pub packed_by : (section : ℕ) (bytes : Laid → List ℕ) (from to : ℕ) (ls : List Laid) → AreLong section bytes ls → Chain section from ls to
+    → ArePacked section bytes from ls
+packed_by section bytes from to [] long chain = tt
+packed_by section bytes from to (l ∷ ls) long chain =
+    let Long = λ (m : Laid). length (bytes m) ≡ length (own_bytes m section) in
+    let behind : ℕ = start_of l.home section + length (own_bytes l section) in
+    (chain.0, rw (All-head Long l ls long) (packed_by section bytes behind to ls (All-tail Long l ls long) chain.1))
+
+pub length_by : (section : ℕ) (bytes : Laid → List ℕ) (from to : ℕ) (ls : List Laid) → AreLong section bytes ls → Chain section from ls to
+    → from + length (section_from section bytes from ls) ≡ to
+unfolding section_from
+length_by section bytes from to [] long chain = omega (arith, chain)
+length_by section bytes from to (l ∷ ls) long chain =
+    let Long = λ (m : Laid). length (bytes m) ≡ length (own_bytes m section) in
+    let here = All-head Long l ls long in
+    let later = length_by section bytes (start_of l.home section + length (own_bytes l section)) to ls (All-tail Long l ls long) chain.1 in
+    let gap : length (zeros (start_of l.home section - from)) ≡ start_of l.home section - from = length-replicate {A = ℕ} _ 0 in
+    simp length-append (rw here (omega (arith, chain.0, later, gap)))

@@ -1,25 +1,20 @@
 -- Each symbol stands at the place that fixups take for it.
-use Rattle.ebc_link.proofs.Common.{◌≡◌, ℕ, ◌<◌, Bool, true, false, cond, not, ◌&&◌, List, [], ◌∷◌, length, get_or, Option, Some, None, refl}
-use Rattle.ebc_link.proofs.Common.{sym, ap, ◌∙◌, nat_eq, Contains, find, is_some, option_map, option_map_or, eqb-false, eqb-true}
-use Rattle.ebc_link.proofs.Common.{get_or-map, is_named, Fixup, Symbol, Laid, place_in, Definition, definition_in, definitions}
+use Rattle.ebc_link.proofs.Common.{zero, suc, arith, ◌≡◌, ℕ, ◌<◌, Bool, true, false, cond, List, [], ◌∷◌, length, get_or, Option, Some}
+use Rattle.ebc_link.proofs.Common.{None, refl, sym, ap, ◌∙◌, nat_eq, Contains, find, is_some, option_map, option_map_or, eqb-false}
+use Rattle.ebc_link.proofs.Common.{eqb-true, get_or-map, is_named, Fixup, Symbol, Laid, place_in, Definition, definition_in, definitions}
 use Rattle.ebc_link.proofs.Common.{definitions_of, first_in, is_definition, is_undefined, names_of, places_of, symbol_place, undefined_in}
 use Rattle.ebc_link.proofs.Common.{target_of, StandsAt, other, own}
 use Rattle.std.specs.Prelude.{filter}
 use Rattle.ebc_base.proofs.TableLaws.{same_name}
 use Rattle.ebc_link.specs.Symbols.{defined_place}
-use Rattle.ebc_link.proofs.{FoundLaws.find_some, FoundLaws.first_nowhere, GlobalLaws.found-named, GlobalLaws.is_of, ThereLaws.head_or_later}
-use Rattle.ebc_link.proofs.ThereLaws.{nowhere, was_joined, was_kept, was_mapped}
+use Rattle.ebc_link.proofs.{FoundLaws.find_some, FoundLaws.first_nowhere, GlobalLaws.found-named, GlobalLaws.is_of, ThereLaws.nowhere}
+use Rattle.ebc_link.proofs.{ThereLaws.was_joined, ThereLaws.was_kept, ThereLaws.was_mapped}
 
 -- what a search doesn't find isn't there
 pub find_nowhere : {X : Type 0} → (p : X → Bool) (xs : List X) (x : X) → find p xs ≡ None → Contains xs x → p x ≡ false
 find_nowhere p [] x e there = nowhere _ x there
-find_nowhere {X} p (y ∷ ys) x e there =
-    head_or_later (p x ≡ false) y ys x there (λ same. ap p (sym same) ∙ (by_test (p y) e).0)
-    (λ later. find_nowhere p ys x (by_test (p y) e).1 later)
-  where
-    by_test : (b : Bool) → cond b (Some y) (find p ys) ≡ None → (b ≡ false) × (find p ys ≡ None)
-    by_test true none = absurd cc
-    by_test false none = (refl, none)
+find_nowhere p (y ∷ ys) x e (zero, within, is) = grind arith
+find_nowhere p (y ∷ ys) x e (suc k, within, is) = find_nowhere p ys x (grind arith) (k, omega (arith, within), is)
 
 pub none_mapped : {X Y : Type 0} → (f : X → Y) (o : Option X) → option_map f o ≡ None → o ≡ None
 none_mapped f None e = refl
@@ -47,11 +42,6 @@ found_place ls name (Some d) e some =
       sym (ap (λ (e : Definition). e.place) symbol.2),
     )
 
-not_and : (a b : Bool) → a ≡ true → (a && not b) ≡ false → b ≡ true
-not_and true true one e = refl
-not_and true false one e = absurd cc
-not_and false b one e = absurd cc
-
 -- the place of a symbol is its own, or that of the definition of its name
 pub stands_at : (ls : List Laid) (l : Laid) (s : Symbol) → Contains ls l → Contains l.object.symbols s
     → first_in (undefined_in (definitions ls)) ls ≡ None → StandsAt ls l s (symbol_place (definitions ls) l.home s)
@@ -66,7 +56,7 @@ stands_at ls l s there has none = by_kind (nat_eq s.kind 0) refl
         find_nowhere (is_undefined (definitions ls)) l.object.symbols s
         (none_mapped (λ (t : Symbol). t.name) (find (is_undefined (definitions ls)) l.object.symbols) here) has in
         let named : is_named s.name (names_of (definitions ls)) ≡ true =
-        not_and (nat_eq s.kind 0) (is_named s.name (names_of (definitions ls))) e no_other in
+        grind arith in
         let found = found_place ls s.name (find (is_of s.name) (definitions ls)) refl (sym (found-named s.name (definitions ls)) ∙ named) in
         other (eqb-true s.kind 0 e) found.0 found.1 found.2 found.3 found.4 found.5 found.6
 

@@ -1,40 +1,87 @@
 -- The listing of an image is assembled to an object, which is linked to the image.
-use Rattle.link_laws.proofs.Common.{◌≡◌, inl, inr, ⊎_elim, ℕ, ◌+◌, ◌-◌, ◌*◌, ◌^◌, ◌<◌, ◌≤◌, List, [], ◌∷◌, ◌++◌, length, map, Some, Ok}
-use Rattle.link_laws.proofs.Common.{Bool, true, false, refl, sym, ap, subst, ◌∙◌, arith, append-nil, IfSome, nat_eq, slice_index}
-use Rattle.link_laws.proofs.Common.{AllByRecursion, filter, list_any, nat_tests, all_append, IsBytes, ◌⊎◌, IsObject, Fixup, Object, Line}
-use Rattle.link_laws.proofs.Common.{label_text, object_in, object_of, fixups_in, names_with, start, symbol_of, same_bytes, rounded}
-use Rattle.link_laws.proofs.Common.{IsLinked, linked_sections, AreBytes, laid, named_place, Image, Section, is_cut, recursion_from_All}
-use Rattle.link_laws.proofs.Common.{listing_of, named, LinkPlan, Laid, contents_start, places_of, Definition, definitions, first_in}
-use Rattle.link_laws.proofs.Common.{bytes_for, contents_of, place_of, relocs_of, with_fixups, entry_in, links, links_laid, filter-append}
-use Rattle.link_laws.proofs.Common.{flag, apart_in, is_address, relocs_in, IsListable, ListsAgain}
-use Rattle.ebc_link.specs.Fixups.{code_of}
+use Rattle.link_laws.proofs.Common.{◌≡◌, ⊎_elim, ℕ, ◌+◌, ◌<◌, ◌≤◌, List, [], ◌∷◌, ◌++◌, length, Bool, true, cond, sym, ap, ◌∙◌, arith}
+use Rattle.link_laws.proofs.Common.{subst, nat_eq, list_any, cases_lt, or_left, or_right, nat_tests, map-append, list_any-append, Listed}
+use Rattle.link_laws.proofs.Common.{label_text, listed_line, same_bytes, Image, label_lines, labels, makes_global, get_or, map_fixed}
+use Rattle.link_laws.proofs.Common.{filter_passes, inl, inr, ◌-◌, ◌*◌, ◌^◌, map, Some, Ok, false, refl, append-nil, IfSome, slice_index}
+use Rattle.link_laws.proofs.Common.{AllByRecursion, filter, all_append, IsBytes, ◌⊎◌, IsObject, Fixup, Object, Line, object_in, object_of}
+use Rattle.link_laws.proofs.Common.{fixups_in, names_with, start, symbol_of, rounded, IsLinked, linked_sections, AreBytes, laid}
+use Rattle.link_laws.proofs.Common.{named_place, Section, is_cut, recursion_from_All, listing_of, named, LinkPlan, Laid, contents_start}
+use Rattle.link_laws.proofs.Common.{places_of, Definition, definitions, first_in, bytes_for, contents_of, place_of, relocs_of, with_fixups}
+use Rattle.link_laws.proofs.Common.{entry_in, links, links_laid, filter-append, flag, apart_in, is_address, relocs_in, IsListable}
+use Rattle.link_laws.proofs.Common.{ListsAgain, All, file_of}
 use Rattle.link_laws.proofs.Relocs.{IsHome, Within, are_low, are_named, code_bytes, contents_bytes, count_relocs, homes, label_inside}
 use Rattle.link_laws.proofs.Relocs.{laid_code, laid_data, relocs_parted, section_inside, whole_code, whole_data}
-use Rattle.link_laws.proofs.{Listings.IsShown, Listings.all_lines, Listings.all_of_lines, Listings.data_place, Listings.data_placed}
-use Rattle.link_laws.proofs.{Listings.entry_labelled, Listings.listing_object, Listings.text_placed, Objects.code_agrees}
-use Rattle.link_laws.proofs.{Objects.code_fixups, Objects.code_is, Objects.contents_agree, Objects.contents_fixups, Objects.contents_is}
-use Rattle.link_laws.proofs.{Objects.object_is, Objects.reloc_fixup, Faultless.IsEntrySymbol, Faultless.linked, Faultless.sole_entry}
-use Rattle.link_laws.proofs.{Faultless.sole_far, Faultless.sole_twice, Faultless.sole_undefined, Lists.all_kept, Lists.all_map}
-use Rattle.link_laws.proofs.{Lists.all_members, Lists.all_of, Lists.drop_map, Lists.each_of, Lists.each_of_both, Lists.keep_map}
-use Rattle.link_laws.proofs.{Lists.map_twice, Filling.IsReloc, Filling.IsSection, Filling.StandsAt, Filling.section_again}
-use Rattle.link_laws.proofs.{Filling.stands_at, FixupWalk.AreNamed, FixupWalk.in_range, FixupWalk.named_some, FixupWalk.with_target}
-use Rattle.link_laws.proofs.{Bodies.IsLabelled, Bodies.named_inside, Bodies.target_labelled, Counts.names_few_in, Entries.entry_global}
-use Rattle.link_laws.proofs.{Lines.place_in_line, Standing.IsLabel, Standing.names_are, Standing.IsPlaced, OneImage.image_again}
-use Rattle.link_laws.proofs.{OneImage.sole, OneImage.sole_laid, SectionLaws.Agree, Sources.fixup_at, Sources.source}
+use Rattle.link_laws.proofs.{PlaceLaws.AreUncut, PlaceLaws.behind_item, Listings.IsShown, Listings.all_lines, Listings.code_lines}
+use Rattle.link_laws.proofs.{Listings.data_lines, Listings.data_place, Listings.entry_labelled, Listings.all_of_lines, Listings.data_placed}
+use Rattle.link_laws.proofs.{Listings.listing_object, Listings.text_placed, SectionLaws.IsStep, SectionLaws.walk, SectionLaws.Agree}
+use Rattle.link_laws.proofs.{Sources.source, Sources.fixup_at, Objects.code_agrees, Objects.code_fixups, Objects.code_is}
+use Rattle.link_laws.proofs.{Objects.contents_agree, Objects.contents_fixups, Objects.contents_is, Objects.object_is, Objects.reloc_fixup}
+use Rattle.link_laws.proofs.{Objects.names_few_in, Faultless.IsEntrySymbol, Faultless.linked, Faultless.sole_entry, Faultless.sole_far}
+use Rattle.link_laws.proofs.{Faultless.sole_twice, Faultless.sole_undefined, Faultless.image_again, Faultless.sole, Faultless.sole_laid}
+use Rattle.link_laws.proofs.{Lists.all_kept, Lists.all_map, Lists.all_members, Lists.all_of, Lists.drop_map, Lists.each_of}
+use Rattle.link_laws.proofs.{Lists.each_of_both, Lists.keep_map, Lists.map_twice, Filling.IsReloc, Filling.IsSection, Filling.StandsAt}
+use Rattle.link_laws.proofs.{Filling.section_again, Filling.stands_at, FixupWalk.AreNamed, FixupWalk.in_range, FixupWalk.named_some}
+use Rattle.link_laws.proofs.{FixupWalk.with_target, Bodies.IsLabelled, Bodies.named_inside, Bodies.target_labelled, Bodies.place_in_line}
+use Rattle.link_laws.proofs.{Taken.IsLabel, Taken.names_are, Taken.IsPlaced}
+use Rattle.ebc_link.specs.Fixups.{code_of}
 use Rattle.ebc_link.specs.Fixups as fixups
+use Rattle.asm_text.specs.declared.listing.Listed.TheVariants as listed
+
+-- one of these lines makes the entry global
+abbrev pub IsGlobal : Image → List Listed → Type 0
+IsGlobal image ls = list_any (makes_global (label_text image.entry)) (source ls) ≡ true
+
+global_front : (image : Image) (xs ys : List Listed) → IsGlobal image xs → IsGlobal image (xs ++ ys)
+global_front image xs ys h =
+    ap (list_any (makes_global (label_text image.entry))) (map-append listed_line xs ys)
+    ∙ (list_any-append (makes_global (label_text image.entry)) (source xs) (source ys) ∙ or_left _ _ h)
+
+global_back : (image : Image) (xs ys : List Listed) → IsGlobal image ys → IsGlobal image (xs ++ ys)
+global_back image xs ys h =
+    ap (list_any (makes_global (label_text image.entry))) (map-append listed_line xs ys)
+    ∙ (list_any-append (makes_global (label_text image.entry)) (source xs) (source ys) ∙ or_right _ _ h)
+
+global_here : (image : Image) (x : ℕ) → x ≡ image.entry → IsGlobal image (label_lines image x)
+unfolding label_lines
+global_here image x same =
+    let yes : nat_eq x image.entry ≡ true = grind (arith, nat_tests) in
+    let lines : Bool → List Listed = λ c.
+    cond c (listed.Global x ∷ listed.Label x ∷ []) (cond (list_any (nat_eq x) (labels image)) (listed.Label x ∷ []) []) in
+    let name = subst (λ y. makes_global (label_text image.entry) (listed_line (listed.Global y)) ≡ true) (sym same) (same_bytes
+    (label_text image.entry)) in
+    ap (λ c. list_any (makes_global (label_text image.entry)) (source (lines c))) yes ∙ or_left _ _ name
+
+abbrev HasEntry : Image → ℕ → List ℕ → List Listed → Type 0
+HasEntry image x bytes ls = x ≤ image.entry → image.entry < x + length bytes → IsGlobal image ls
+
+entry_step : (image : Image) (code : Bool) → AreUncut image → IsStep image code (HasEntry image)
+entry_step image code all x b bytes rest l n each is item left later from to =
+    ⊎_elim
+    (λ past.
+    let behind : x + n ≤ image.entry = behind_item image code x image.entry n (b ∷ bytes) l is all (entry_labelled image) past in
+    global_back image (label_lines image x ++ l ∷ []) rest (later behind (omega (arith, to))))
+    (λ same.
+    global_front image (label_lines image x ++ l ∷ []) rest
+    (global_front image (label_lines image x) (l ∷ []) (global_here image x (omega (arith, same, from)))))
+    (cases_lt x image.entry)
+
+-- The lines of an image that is entered in its code make the entry global.
+pub entry_global : (image : Image) (text contents : List ℕ) → IsShown image text contents → IsGlobal image (all_lines image text contents)
+entry_global image text contents s =
+    let here = walk image true (HasEntry image) (λ x from to. absurd (omega (arith, from, to)))
+    (entry_step image true s.uncut) 0x1000 text s.text_bytes
+    s.entry_from s.entry_to in
+    global_front image (code_lines image text) (data_lines image (data_place text) contents) here
 
 -- ---- an image whose listing is linked again
 
 places_back : (f : ℕ → ℕ) (x n : ℕ) (rs : List ℕ) → ((r : ℕ) → f r ≡ x + (r - x))
     → map f (filter (in_range x n) rs) ≡ filter (in_range x n) rs
-places_back f x n rs is = back (filter (in_range x n) rs)
-    (all_kept (in_range x n) (λ r. x ≤ r) rs (all_of (λ r. in_range x n r ≡ true → x ≤ r) rs (λ r e. grind (arith, nat_tests))))
-  where
-    back : (qs : List ℕ) → AllByRecursion (λ q. x ≤ q) qs → map f qs ≡ qs
-    back [] all = refl
-    back (q ∷ qs) all =
-        let same : x + (q - x) ≡ q = omega arith in
-        ap (λ r. r ∷ map f qs) (is q ∙ same) ∙ ap (λ rs. q ∷ rs) (back qs all.1)
+places_back f x n rs is = map_fixed f (filter (in_range x n) rs) (λ i d inside.
+    let r : ℕ = get_or (filter (in_range x n) rs) i d in
+    let passes : in_range x n r ≡ true = filter_passes (in_range x n) rs i d inside in
+    let same : x + (r - x) ≡ r = grind (arith, nat_tests) in
+    is r ∙ same)
 
 -- the eight bytes of a relocation lie in some bytes, before them or behind them
 abbrev Lies : ℕ → ℕ → ℕ → Type 0
@@ -324,3 +371,37 @@ lists_again image l = by l.text refl
           its_size image b bs l.contents s,
           its_image image b bs l.contents s,
         )
+
+-- a plan with the base, the subsystem and the entry of an image
+pub record IsPlanOf (image : Image) (plan : LinkPlan) : Type 0 where
+  pub base : plan.base ≡ image.base
+  pub subsystem : plan.subsystem ≡ image.subsystem
+  pub entry : plan.entry ≡ label_text image.entry
+
+-- the object of an image's listing, whichever it is
+pub record IsListed (image : Image) (o : Object) : Type 0 where
+  pub object : IsObject o
+  pub again : (plan : LinkPlan) → IsPlanOf image plan → links (o ∷ []) plan ≡ Ok image
+
+pub is_listed : (image : Image) (source : List ℕ) (o : Object) → IsListable image → source ≡ listing_of image → object_of source ≡ Ok o
+    → IsListed image o
+is_listed image source o listable same is =
+    let law = lists_again image listable in
+    let one : law.0 ≡ o = let both : Ok law.0 ≡ Ok o = sym law.1 ∙ (ap object_of (sym same) ∙ is) in cc in
+    subst (IsListed image) one (record {
+      object = law.2;
+      again = λ plan p. law.3 plan p.base p.subsystem p.entry;
+    })
+
+-- an object alone
+pub all_one : (os : List Object) (o : Object) → os ≡ o ∷ [] → IsObject o → All IsObject os
+all_one os o is object = rw is (λ k d short. let first : k ≡ 0 = omega (arith, short) in rw first object)
+
+-- the file of what it is linked to
+pub same_file : (image again : Image) (o : Object) (os : List Object) (plan : LinkPlan) (file : List ℕ) → IsListed image o → os ≡ o ∷ []
+    → IsPlanOf image plan → links os plan ≡ Ok again → file ≡ file_of again → file ≡ file_of image
+same_file image again o os plan file its is planned linked written =
+    let same : again ≡ image =
+    let both : Ok again ≡ Ok image = sym linked ∙ (ap (λ xs. links xs plan) is ∙ its.again plan planned) in cc
+    in
+    written ∙ ap file_of same

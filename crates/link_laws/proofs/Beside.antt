@@ -1,14 +1,14 @@
 -- The bytes of a line of the code in the image that its object is linked to, and the fixups and relocations beside them.
-use Rattle.link_laws.proofs.Common.{◌≡◌, ◌⊎◌, inl, inr, ⊎_elim, ℕ, ◌+◌, ◌≤◌, List, [], ◌∷◌, length, get_or, sym, ap, subst, ◌∙◌, arith}
-use Rattle.link_laws.proofs.Common.{AllPairs, AllByRecursion, Contains, All-from_recursion, Object, rounded, Laid, code_end, code_start}
-use Rattle.link_laws.proofs.Common.{contents_start, homes_from, homes_of, laid_objects, laid_with, Bool, None, Option, Some, false}
-use Rattle.link_laws.proofs.Common.{length-append, refl, replicate, true, ◌++◌, ◌<◌, All, slice_index, nat_tests, get_or-append-add}
-use Rattle.link_laws.proofs.Common.{get_or_append_left, length-replicate, All-contains, recursion_from_All, all_append, spelling, Insn}
-use Rattle.link_laws.proofs.Common.{IsObject, width, Fixup, Line, is_of, laid, Image, AreFit, code_ends, ends_in, ends_of, known_in}
-use Rattle.link_laws.proofs.Common.{data_after, ends_in_data, insn_use, section_of, use_of, bytes_of, object_in, fixup_of, fixups_in}
-use Rattle.link_laws.proofs.Common.{fixups_of, names_with, section_kind, start, place_of, place_in, Linked, fills, LinkPlan, subst₂}
-use Rattle.link_laws.proofs.Common.{cases_order, get_or_default, AllPairs-cons, All-weaker, contents_end, Stands, stands, IsFixup}
-use Rattle.link_laws.proofs.Common.{section_bytes, AreFixups, are_fixups, Knows, KnowsUse, LineFits, IsAddress}
+use Rattle.link_laws.proofs.Common.{IsInside, laid_inside, object_of_laid, ◌≡◌, ◌⊎◌, inl, inr, ⊎_elim, ℕ, ◌+◌, ◌≤◌, List, [], ◌∷◌, length}
+use Rattle.link_laws.proofs.Common.{get_or, sym, ap, subst, ◌∙◌, arith, AllPairs, AllByRecursion, Contains, All-from_recursion, Object}
+use Rattle.link_laws.proofs.Common.{rounded, Laid, code_end, code_start, contents_start, homes_from, homes_of, laid_objects, laid_with}
+use Rattle.link_laws.proofs.Common.{Bool, None, Option, Some, false, length-append, refl, replicate, true, ◌++◌, ◌<◌, All, slice_index}
+use Rattle.link_laws.proofs.Common.{nat_tests, get_or-append-add, get_or_append_left, length-replicate, All-contains, recursion_from_All}
+use Rattle.link_laws.proofs.Common.{all_append, spelling, Insn, IsObject, width, Fixup, Line, is_of, laid, Image, AreFit, code_ends}
+use Rattle.link_laws.proofs.Common.{ends_in, ends_of, known_in, data_after, ends_in_data, insn_use, section_of, use_of, bytes_of, object_in}
+use Rattle.link_laws.proofs.Common.{fixup_of, fixups_in, fixups_of, names_with, section_kind, start, place_of, place_in, Linked, fills}
+use Rattle.link_laws.proofs.Common.{LinkPlan, subst₂, cases_order, get_or_default, AllPairs-cons, All-weaker, contents_end, Stands, stands}
+use Rattle.link_laws.proofs.Common.{IsFixup, section_bytes, AreFixups, are_fixups, Knows, KnowsUse, LineFits, IsAddress}
 use Rattle.link_laws.proofs.{Lists.all_back, Lists.all_front, Lists.each_of, Lists.none_passes, Sources.ends_at, Sources.fixups_append}
 use Rattle.asm_text.specs.Statements as statements
 
@@ -30,17 +30,6 @@ all_before code contents (o ∷ os) =
     AllPairs-cons IsBefore first ls
     (All-weaker (Stands c d (code_end c os) (contents_end d os)) (IsBefore first)
     (λ l s. record { code = s.code_low; contents = s.contents_low }) ls (stands c d os)) (all_before c d os)
-
--- Each object stands in the sections.
-abbrev pub IsInside : List Object → Laid → Type 0
-IsInside objects l =
-    Stands code_start (contents_start objects) (code_end code_start objects) (contents_end (contents_start objects) objects) l
-
-pub laid_inside : (objects : List Object) (l : Laid) → Contains (laid_objects objects) l → IsInside objects l
-unfolding laid_objects homes_of
-laid_inside objects l there =
-    All-contains (IsInside objects) (laid_with objects (homes_from code_start (contents_start objects) objects)) l
-    (stands code_start (contents_start objects) objects) there
 
 -- the same object, or one that stands before or behind
 pub laid_apart : (objects : List Object) (l m : Laid) → Contains (laid_objects objects) l → Contains (laid_objects objects) m
@@ -165,23 +154,6 @@ all_beside front back line i name fit is code =
 
 -- ---- relocations beside a line
 
-all_objects : (P : Object → Type 0) (code contents : ℕ) (os : List Object) → AllByRecursion P os
-    → AllByRecursion (λ (l : Laid). P l.object) (laid_with os (homes_from code contents os))
-unfolding homes_from
-all_objects P code contents [] all = tt
-all_objects P code contents (o ∷ os) all = (
-  all.0,
-  all_objects P (rounded 2 code + length o.code)
-      (rounded 8 contents + length o.contents) os all.1,
-)
-
-object_of_laid : (objects : List Object) (l : Laid) → All IsObject objects → Contains (laid_objects objects) l → IsObject l.object
-unfolding laid_objects homes_of
-object_of_laid objects l all there =
-    All-contains (λ (m : Laid). IsObject m.object) (laid_with objects (homes_from code_start (contents_start objects) objects)) l
-    (All-from_recursion (λ (m : Laid). IsObject m.object) (laid_with objects (homes_from code_start (contents_start objects) objects))
-    (all_objects IsObject code_start (contents_start objects) objects (recursion_from_All IsObject objects all))) there
-
 -- Eight bytes end before some bytes, begin behind them, or are those of an address that is this fixup.
 abbrev pub IsAside : Laid → ℕ → ℕ → Option Fixup → ℕ → Type 0
 IsAside l p n this x = ((x + 8 ≤ p) ⊎ (p + n ≤ x)) ⊎ ((f : Fixup) × (this ≡ Some f) × (f.kind ≡ 5) × (x ≡ l.home.code + f.offset))
@@ -197,14 +169,13 @@ code_place m f x section is = is ∙ ap (λ s. place_in m.home s f.offset) secti
 own_aside : (objects : List Object) (l : Laid) (off n x : ℕ) (this : Option Fixup) (f : Fixup) → IsInside objects l
     → off + n ≤ length l.object.code → f.kind ≡ 5 → x ≡ place_of l.home f → (f.section ≡ 1) ⊎ (f.section ≡ 2) → IsBeside off n this f
     → IsAside l (l.home.code + off) n this x
-own_aside objects l off n x this f il within five is section (inl two) =
+own_aside objects l off n x this f il within five is (inr two) beside =
     data_aside objects l l (l.home.code + off) n x this f il il (omega (arith, within)) two is
-own_aside objects l off n x this f il within five is section (inr (inl a)) =
-    inl (inl (omega (arith, code_place l f x a.0 is, ap width five)))
-own_aside objects l off n x this f il within five is section (inr (inr (inl a))) = inl (inr (omega (arith, code_place l f x a.0 is)))
 own_aside objects l off n x this f il within five is (inl one) (inr (inr (inr own))) = inr (f, own, five, code_place l f x one is)
-own_aside objects l off n x this f il within five is (inr two) (inr (inr (inr own))) =
-    data_aside objects l l (l.home.code + off) n x this f il il (omega (arith, within)) two is
+own_aside objects l off n x this f il within five is (inl one) (inr (inr (inl a))) = inl (inr (omega (arith, code_place l f x one is)))
+own_aside objects l off n x this f il within five is (inl one) (inr (inl a)) =
+    inl (inl (omega (arith, code_place l f x one is, ap width five)))
+own_aside objects l off n x this f il within five is (inl one) (inl two) = absurd (omega (arith, one, two))
 
 other_aside : (objects : List Object) (l m : Laid) (off n x : ℕ) (this : Option Fixup) (f : Fixup) → IsInside objects l → IsInside objects m
     → off + n ≤ length l.object.code → f.kind ≡ 5 → x ≡ place_of m.home f
@@ -242,10 +213,8 @@ address_aside objects l off n x this all there within beside (m, f, has, its, fi
 
 not_filled : (off n k limit : ℕ) (this : Option Fixup) (f : Fixup) → IsBeside off n this f → k < limit → limit ≤ n
     → (this ≡ Some f → off + limit ≤ f.offset) → fills 1 (off + k) f ≡ false
-not_filled off n k limit this f (inl two) low short later = grind (arith, nat_tests, two)
-not_filled off n k limit this f (inr (inl a)) low short later = grind (arith, nat_tests)
-not_filled off n k limit this f (inr (inr (inl a))) low short later = grind (arith, nat_tests)
 not_filled off n k limit this f (inr (inr (inr own))) low short later = let from = later own in grind (arith, nat_tests)
+not_filled off n k limit this f beside low short later = grind (arith, nat_tests, beside)
 
 -- a byte of a line that its fixup doesn't fill in
 pub line_byte : (objects : List Object) (plan : LinkPlan) (image : Image) (l : Laid) (before bytes rest : List ℕ) (limit k : ℕ)
@@ -268,7 +237,5 @@ line_byte objects plan image l before bytes rest limit k this link there code be
 pub before_number : (l : Laid) (p off n limit k x : ℕ) (this : Option Fixup) → IsAside l p n this x → p ≡ l.home.code + off → k < limit
     → limit ≤ n
     → ((f : Fixup) → this ≡ Some f → off + limit ≤ f.offset) → is_of (p + k) x ≡ false
-before_number l p off n limit k x this (inl (inl to)) at low short later = grind (arith, nat_tests)
-before_number l p off n limit k x this (inl (inr from)) at low short later = grind (arith, nat_tests)
-before_number l p off n limit k x this (inr own) at low short later =
-    let from = later own.0 own.1 in grind (arith, nat_tests)
+before_number l p off n limit k x this (inl beside) at low short later = grind (arith, nat_tests)
+before_number l p off n limit k x this (inr own) at low short later = let from = later own.0 own.1 in grind (arith, nat_tests)

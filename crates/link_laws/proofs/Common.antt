@@ -14,6 +14,8 @@ pub use Rattle.std.proofs.{lemmas.Bool.Decides.nat_tests, lemmas.Grind.flat_map-
 pub use Rattle.std.proofs.{lemmas.List.Folds.list_all-append, lemmas.List.Kept.AllPairs-cons, Math.IntN.+ℤ_assoc, Math.IntN.+ℤ_idl}
 pub use Rattle.std.proofs.{Math.IntN.+ℤ_invl, Math.IntN.neg_ℤ, Math.IntN.negsuc-*ℤ-pos, Math.IntN.pos-*ℤ-pos}
 pub use Rattle.std.proofs.{lemmas.Slice.Eq.bytes_eq-Decides, lemmas.Map.Made.Contains-tail, Math.Nat.div-div-eq-div-mul, Math.Nat.pow-suc}
+pub use Rattle.std.proofs.lemmas.{List.Folds.Any-from_list_any, List.Folds.map_fixed, List.Elements.filter_passes, Grind.common_steps}
+pub use Rattle.std.proofs.lemmas.{Int.ints}
 pub use Rattle.std.specs.Prelude.{All, IfSome, nat_eq, slice_index, AllPairs, nat_le, bytes_eq, nat_lt, if◌then◌else◌, ◌==◌, codes, ◌+ℤ◌}
 pub use Rattle.std.specs.Prelude.{◌*ℤ◌, ◌↔◌, is_some, ⊤, IfOk, slice_get, negsuc}
 pub use Rattle.std.specs.List.{AllByRecursion, filter, list_any, Contains, cons_option, filter_map, find, list_all, flat_map, Any}
@@ -60,6 +62,7 @@ pub use Rattle.ebc_disasm.proofs.{Lines.next_lines, Fits.label_fits, Firsts.pair
 pub use Rattle.ebc_disasm.specs.Listings.{byte_at, if_whole, is_of_immediate, lies_on, takes_label, with_label, without_immediate}
 pub use Rattle.ebc_disasm.specs.Listings.{is_inside, heading}
 pub use Rattle.ebc_link.proofs.{FoundLaws.first_of_all, FoundLaws.further, ThereLaws.head_or_later, ThereLaws.nowhere, ThereLaws.joined}
+pub use Rattle.ebc_link.proofs.StandLaws.{IsInside, laid_inside, object_of_laid}
 pub use Rattle.ebc_link.proofs.{ThereLaws.kept, StandLaws.Stands, StandLaws.stands, FillLaws.put_before, FillLaws.put_behind}
 pub use Rattle.ebc_link.proofs.{FillLaws.put_inside, FillLaws.put_length, BytesLaws.laid_linked}
 pub use Rattle.ebc_link.specs.{Fixups.contents_of, Fixups.place_of, Fixups.is_address, Fixups.relocs_in, Fixups.far_in, Fixups.target_of}

@@ -1,14 +1,18 @@
--- No fault of the linker comes of the object of a listing.
-use Rattle.link_laws.proofs.Common.{◌≡◌, ℕ, ◌%◌, ◌<◌, ◌≤◌, List, [], ◌∷◌, ◌++◌, length, map, Some, None, Ok, Bool, true, false, not, cond}
-use Rattle.link_laws.proofs.Common.{◌&&◌, refl, sym, ap, subst, ◌∙◌, arith, append-nil, bytes_eq, nat_eq, nat_le, nat_lt, if◌then◌else◌}
-use Rattle.link_laws.proofs.Common.{AllByRecursion, filter, find, option_or, and_from, and_parts, or_from, or_parts, nat_tests}
-use Rattle.link_laws.proofs.Common.{list_any-append, cond_both, cases_Bool, or_cases, ⊎_elim, is_named, same_name, Fixup, Object, Symbol}
+-- One object alone in the linker's layout: no fault comes of it, and the image is the one that it was listed from.
+use Rattle.link_laws.proofs.Common.{same_name, le-leb, ◌≡◌, ℕ, ◌%◌, ◌<◌, ◌≤◌, List, [], ◌∷◌, ◌++◌, length, map, Some, None, Ok, Bool, true}
+use Rattle.link_laws.proofs.Common.{false, not, cond, ◌&&◌, refl, sym, ap, subst, ◌∙◌, arith, append-nil, bytes_eq, nat_eq, nat_le, nat_lt}
+use Rattle.link_laws.proofs.Common.{if◌then◌else◌, AllByRecursion, filter, find, option_or, and_from, and_parts, or_from, or_parts}
+use Rattle.link_laws.proofs.Common.{nat_tests, list_any-append, cond_both, cases_Bool, or_cases, ⊎_elim, is_named, Fixup, Object, Symbol}
 use Rattle.link_laws.proofs.Common.{Image, LinkPlan, Laid, place_in, places_of, Definition, definition_in, definitions, first_again}
 use Rattle.link_laws.proofs.Common.{first_in, is_definition, names_of, place_of, entry_in, linked_image, links_laid, other_way, Apart}
-use Rattle.link_laws.proofs.Common.{is_undefined, undefined_in, far_in, is_near, is_entry}
+use Rattle.link_laws.proofs.Common.{is_undefined, undefined_in, far_in, is_near, is_entry, ◌+◌, ◌-◌, file_sections, next_place}
+use Rattle.link_laws.proofs.Common.{reloc_section, reloc_sections, rounded, zeros, linked_sections, Section, code_end, code_start}
+use Rattle.link_laws.proofs.Common.{contents_start, homes_from, homes_of, laid_objects, contents_of, relocs_of, contents_from, section_from}
+use Rattle.link_laws.proofs.Common.{text_from}
 use Rattle.std.specs.Option.{option_map}
 use Rattle.pe_image.specs.Conditions.{most}
 use Rattle.link_laws.proofs.Lists.{all_kept, all_map, all_of, each_of, fails_of, find_none, none_passes}
+use Rattle.ebc_link.specs.Fixups.{code_of}
 
 -- ---- searches
 
@@ -17,18 +21,14 @@ pub find_named : (p : Symbol → Bool) (f : List ℕ → Symbol) (n : List ℕ) 
     → ((m : List ℕ) → p (f m) ≡ true → m ≡ n) → find p (map f ns) ≡ Some (f n)
 find_named p f n [] there passes only = cc there
 find_named p f n (m ∷ ms) there passes only =
-    ⊎_elim (λ yes. rw yes (ap (λ k. Some (f k)) (only m yes)))
-    (λ no. rw no (⊎_elim
-    (λ e. let yes : p (f m) ≡ true = subst (λ k. p (f k) ≡ true) (same_name n m e) passes in cc (sym no ∙ yes))
-    (λ later. find_named p f n ms later passes only) (or_cases (bytes_eq n m) _ there)))
-    (cases_Bool (p (f m)))
+    let later = λ (h : is_named n ms ≡ true). find_named p f n ms h passes only in
+    grind (arith, only m, same_name n m, later)
 
 -- ---- a name that is defined twice
 
 not_in_filter : (p : List ℕ → Bool) (n : List ℕ) (ns : List (List ℕ)) → is_named n ns ≡ false → is_named n (filter p ns) ≡ false
-not_in_filter p n ns h =
-    none_passes (bytes_eq n) (filter p ns) (all_kept p (λ m. bytes_eq n m ≡ false) ns
-    (each_of (λ m. bytes_eq n m ≡ false) (λ m. p m ≡ true → bytes_eq n m ≡ false) ns (λ m e passes. e) (fails_of (bytes_eq n) ns h)))
+not_in_filter p n [] h = refl
+not_in_filter p n (m ∷ ns) h = grind (arith, not_in_filter p n ns)
 
 pub apart_filter : (p : List ℕ → Bool) (ns : List (List ℕ)) → Apart ns → Apart (filter p ns)
 apart_filter p [] h = tt
@@ -41,10 +41,8 @@ more_before : (n : List ℕ) (before ns : List (List ℕ)) → AllByRecursion (�
     → AllByRecursion (λ m. is_named m (before ++ n ∷ []) ≡ false) ns
 more_before n before [] all new = tt
 more_before n before (m ∷ ns) all new =
-    let p = or_parts (bytes_eq n m) (is_named n ns) new in (
-      list_any-append (bytes_eq m) before (n ∷ []) ∙ or_from _ _ all.0 (or_from _ _ (other_way n m (bytes_eq m n) refl p.0) refl),
-      more_before n before ns all.1 p.1,
-    )
+    let other : bytes_eq m n ≡ false = other_way n m (bytes_eq m n) refl (grind arith) in
+    (rw list_any-append (grind (arith, all.0)), more_before n before ns all.1 (grind arith))
 
 pub none_again : (before ns : List (List ℕ)) → Apart ns → AllByRecursion (λ m. is_named m before ≡ false) ns → first_again before ns ≡ None
 unfolding first_again
@@ -57,14 +55,7 @@ none_again before (n ∷ ns) apart new =
 pub defined_names : (h : Laid) (f : List ℕ → Symbol) (ns : List (List ℕ)) → ((n : List ℕ) → (f n).name ≡ n)
     → names_of (map (definition_in h.home) (filter is_definition (map f ns))) ≡ filter (λ n. is_definition (f n)) ns
 defined_names h f [] same = refl
-defined_names h f (n ∷ ns) same = first (is_definition (f n)) (defined_names h f ns same)
-  where
-    first : (b : Bool) → names_of (map (definition_in h.home) (filter is_definition (map f ns))) ≡ filter (λ n. is_definition (f n)) ns
-        → names_of (map (definition_in h.home) (cond b (f n ∷ filter is_definition (map f ns)) (filter is_definition (map f ns))))
-        ≡ cond b (n ∷ filter (λ n. is_definition (f n)) ns) (filter (λ n. is_definition (f n)) ns)
-    first true rest =
-        ap (λ m. m ∷ names_of (map (definition_in h.home) (filter is_definition (map f ns)))) (same n) ∙ ap (λ ms. n ∷ ms) rest
-    first false rest = rest
+defined_names h f (n ∷ ns) same = grind (arith, same n, defined_names h f ns same)
 
 -- ---- one object alone
 
@@ -82,13 +73,9 @@ pub sole_undefined : (ds : List Definition) (o : Object) (h : Laid) (f : List �
     → AllByRecursion (λ n. nat_eq (f n).kind 0 ≡ false) ns → first_in (undefined_in ds) (record { object = o; home = h.home } ∷ []) ≡ None
 unfolding first_in
 sole_undefined ds o h f ns symbols placed =
-    let none = find_none (is_undefined ds) (map f ns) (all_map (λ s. is_undefined ds s ≡ false) f ns (each ns placed)) in
-    ap (λ x. option_or (option_map (λ (s : Symbol). s.name) x) None) (ap (find (is_undefined ds)) symbols ∙ none)
-  where
-    each : (ms : List (List ℕ)) → AllByRecursion (λ n. nat_eq (f n).kind 0 ≡ false) ms
-        → AllByRecursion (λ n. is_undefined ds (f n) ≡ false) ms
-    each [] all = tt
-    each (m ∷ ms) all = (ap (λ b. b && not (is_named (f m).name (names_of ds))) all.0, each ms all.1)
+    let none = find_none (is_undefined ds) (map f ns) (all_map (λ s. is_undefined ds s ≡ false) f ns
+    (each_of (λ n. nat_eq (f n).kind 0 ≡ false) (λ n. is_undefined ds (f n) ≡ false) ns (λ n known. grind arith) placed)) in
+    rw (symbols, none) refl
 
 pub sole_far : (ds : List Definition) (l : Laid) → AllByRecursion (λ (f : Fixup). f.kind ≡ 5) l.object.fixups
     → first_in (far_in ds) (l ∷ []) ≡ None
@@ -97,7 +84,7 @@ sole_far ds l five =
     let none = find_none (λ (f : Fixup). not (is_near (places_of ds l) l.home f)) l.object.fixups
     (each_of (λ (f : Fixup). f.kind ≡ 5) (λ (f : Fixup). not (is_near (places_of ds l) l.home f) ≡ false) l.object.fixups
     (λ f kind. rw kind refl) five) in
-    ap (λ x. option_or (option_map (place_of l.home) x) None) none
+    rw none refl
 
 -- What is asked of the symbol of the entry.
 pub record IsEntrySymbol (o : Object) (s : Symbol) : Type 0 where
@@ -108,27 +95,20 @@ pub record IsEntrySymbol (o : Object) (s : Symbol) : Type 0 where
 
 entry_passes : (o : Object) (s : Symbol) → IsEntrySymbol o s → bytes_eq s.name s.name ≡ true
     → is_entry s.name (length o.code) s ≡ true
-entry_passes o s is same =
-    let a : nat_eq (s.offset % 2) 0 ≡ true = grind (arith, nat_tests) in
-    let b : nat_lt s.offset (length o.code) ≡ true = grind (arith, nat_tests) in
-    rw (is.global, is.kind, same) (and_from _ _ a b)
+entry_passes o s is same = grind (arith, nat_tests, is.global, is.kind, is.even, is.within)
 
 pub sole_entry : (l : Laid) (f : List ℕ → Symbol) (name : List ℕ) (ns : List (List ℕ)) → l.object.symbols ≡ map f ns
     → ((n : List ℕ) → (f n).name ≡ n) → is_named name ns ≡ true → bytes_eq name name ≡ true → IsEntrySymbol l.object (f name)
     → first_in (entry_in name) (l ∷ []) ≡ Some (place_in l.home 1 (f name).offset)
 unfolding first_in
 sole_entry l f name ns symbols named there same is =
-    let size : ℕ = length l.object.code in
-    let passes = subst (λ n. is_entry n size (f name) ≡ true) (named name)
+    let passes : Symbol → Bool = is_entry name (length l.object.code) in
+    let here : passes (f name) ≡ true = subst (λ n. is_entry n (length l.object.code) (f name) ≡ true) (named name)
     (entry_passes l.object (f name) is (subst (λ n. bytes_eq n n ≡ true) (sym (named name)) same)) in
-    let found = ap (find (is_entry name size)) symbols ∙ find_named (is_entry name size) f name ns there passes only in
-    ap (λ x. option_or (option_map (λ (s : Symbol). place_in l.home 1 s.offset) x) None) found
+    rw (symbols, find_named passes f name ns there here (λ m e. sym (named m) ∙ only m e)) refl
   where
-    only : (m : List ℕ) → is_entry name (length l.object.code) (f m) ≡ true → m ≡ name
-    only m e =
-        let p = and_parts (is_definition (f m)) _ e in
-        let q = and_parts (bytes_eq (f m).name name) _ p.1 in
-        sym (named m) ∙ same_name (f m).name name q.0
+    only : (m : List ℕ) → is_entry name (length l.object.code) (f m) ≡ true → (f m).name ≡ name
+    only m e = grind (arith, same_name)
 
 -- ---- the image
 
@@ -139,5 +119,55 @@ pub linked : (plan : LinkPlan) (ls : List Laid) (contents entry : ℕ) (image : 
     → linked_image plan (definitions ls) ls contents entry ≡ image → image.size ≤ most → links_laid plan ls contents ≡ Ok image
 unfolding links_laid
 linked plan ls contents entry image twice undefined far found is small =
-    let fits : nat_le image.size most ≡ true = grind (arith, nat_tests) in
-    rw (twice, undefined, far, found) (rw is (rw fits refl))
+    rw (twice, undefined, far, found) (rw is (rw (le-leb image.size most small) refl))
+
+-- one object, and where it stands
+abbrev pub sole : Object → Laid
+sole o = record { object = o; home = record { code = 0x1000; contents = rounded 0x1000 (0x1000 + length o.code) } }
+
+start_is : (o : Object) → contents_start (o ∷ []) ≡ rounded 0x1000 (0x1000 + length o.code)
+unfolding contents_start code_end
+start_is o = refl
+
+pub sole_laid : (o : Object) → laid_objects (o ∷ []) ≡ sole o ∷ []
+unfolding laid_objects homes_of homes_from
+sole_laid o =
+    ap (λ n. record { object = o; home = record { code = 0x1000; contents = n } } ∷ []) (ap (rounded 8) (start_is o) ∙ omega arith)
+
+nothing_between : (n : ℕ) (bytes : List ℕ) → zeros (n - n) ++ (bytes ++ []) ≡ bytes
+nothing_between n bytes = let none : n - n ≡ 0 = omega arith in ap (λ k. zeros k ++ (bytes ++ [])) none ∙ append-nil bytes
+
+pub sole_text : (bytes : Laid → List ℕ) (o : Object) → text_from bytes code_start (sole o ∷ []) ≡ bytes (sole o)
+unfolding section_from
+sole_text bytes o = nothing_between 0x1000 (bytes (sole o))
+
+pub sole_contents : (bytes : Laid → List ℕ) (o : Object) → contents_from bytes (contents_start (o ∷ [])) (sole o ∷ []) ≡ bytes (sole o)
+unfolding section_from
+sole_contents bytes o =
+    ap (λ n. zeros (rounded 0x1000 (0x1000 + length o.code) - n) ++ (bytes (sole o) ++ [])) (start_is o)
+    ∙ nothing_between (rounded 0x1000 (0x1000 + length o.code)) (bytes (sole o))
+
+-- An image by its parts.
+abbrev made : ℕ → ℕ → ℕ → List Section → List ℕ → ℕ → Image
+made base entry subsystem sections relocs size = record {
+  base = base;
+  entry = entry;
+  size = size;
+  subsystem = subsystem;
+  sections = sections;
+  relocs = relocs;
+}
+
+pub image_again :
+    (plan : LinkPlan) (o : Object) (image : Image) (text contents : List ℕ) → plan.base ≡ image.base → plan.subsystem ≡ image.subsystem →
+    image.sections ≡ linked_sections text contents → image.size ≡ next_place (file_sections image) 0x1000 →
+    code_of plan.base (definitions (sole o ∷ [])) (sole o) ≡ text → contents_of plan.base (definitions (sole o ∷ [])) (sole o) ≡ contents →
+    relocs_of (sole o ∷ []) ≡ image.relocs →
+    linked_image plan (definitions (sole o ∷ [])) (sole o ∷ []) (contents_start (o ∷ [])) image.entry ≡ image
+unfolding linked_image file_sections reloc_sections reloc_section
+image_again plan o image text contents base subsystem sections size code behind relocs =
+    let ds = definitions (sole o ∷ []) in
+    let contents_is : contents_from (contents_of plan.base ds) (contents_start (o ∷ [])) (sole o ∷ []) ≡ contents = sole_contents
+    (contents_of plan.base ds) o ∙ behind in
+    rw (sole_text (code_of plan.base ds) o ∙ code, contents_is, relocs, base, subsystem, ← sections)
+    (ap (λ n. made image.base image.entry image.subsystem image.sections image.relocs n) (sym size))

@@ -1,15 +1,17 @@
 -- The fixups of a section are filled in with the numbers that the image has there.
-use Rattle.link_laws.proofs.Common.{◌≡◌, ◌⊎◌, ⊎_elim, inl, inr, ℕ, ◌+◌, ◌-◌, ◌<◌, ◌≤◌, Bool, true, false, ◌&&◌, List, [], ◌∷◌, length}
-use Rattle.link_laws.proofs.Common.{get_or, take, drop, refl, sym, ap, ◌∙◌, arith, length-drop, length-take-le, nat_le, nat_lt, nat_tests}
-use Rattle.link_laws.proofs.Common.{AllByRecursion, cases_lt, ext_get_or, get_or-drop, get_or-take, Fixup, with_fixups, ◌%◌, ◌^◌, map, not}
-use Rattle.link_laws.proofs.Common.{cond, subst, nat_eq, slice_index, if◌then◌else◌, w64, to_le_bytes, filter, cases_Bool, is_named}
-use Rattle.link_laws.proofs.Common.{name_number, little_endian, distance_of, little_endian-below, IsBytes, Symbol, Line, label_text}
-use Rattle.link_laws.proofs.Common.{names_with, section_kind, start, symbol_of, is_of, laid, named_place, Image, Laid, place_in, Definition}
-use Rattle.link_laws.proofs.Common.{places_of, get_name, bytes_for, put_at, target_of, value_of, defined_place, symbol_place, put_before}
-use Rattle.link_laws.proofs.Common.{put_behind, put_inside, put_length, little_endian-moved}
+use Rattle.link_laws.proofs.Common.{put_before, put_behind, put_inside, length-take-le}
+use Rattle.link_laws.proofs.Common.{common_steps, get_or_append_left, get_or-append_right, ◌≡◌, ◌⊎◌, ⊎_elim, inl, inr, ℕ, ◌+◌, ◌-◌, ◌<◌}
+use Rattle.link_laws.proofs.Common.{◌≤◌, Bool, true, false, ◌&&◌, List, [], ◌∷◌, length, get_or, take, drop, refl, sym, ap, ◌∙◌, arith}
+use Rattle.link_laws.proofs.Common.{length-drop, length-take-le, nat_le, nat_lt, nat_tests, AllByRecursion, cases_lt, ext_get_or}
+use Rattle.link_laws.proofs.Common.{get_or-drop, get_or-take, Fixup, with_fixups, ◌%◌, ◌^◌, map, not, cond, subst, nat_eq, slice_index}
+use Rattle.link_laws.proofs.Common.{if◌then◌else◌, w64, to_le_bytes, filter, cases_Bool, is_named, name_number, little_endian, distance_of}
+use Rattle.link_laws.proofs.Common.{little_endian-below, IsBytes, Symbol, Line, label_text, names_with, section_kind, start, symbol_of}
+use Rattle.link_laws.proofs.Common.{is_of, laid, named_place, Image, Laid, place_in, Definition, places_of, get_name, bytes_for, put_at}
+use Rattle.link_laws.proofs.Common.{target_of, value_of, defined_place, symbol_place, put_before, put_behind, put_inside, put_length}
+use Rattle.link_laws.proofs.Common.{little_endian-moved}
 use Rattle.ebc_asm.specs.Symbols.{place_of}
 use Rattle.link_laws.proofs.{SectionLaws.Agree, FixupWalk.in_range, Lists.all_kept, Lists.all_pass, Lists.each_of, Lists.each_of_both}
-use Rattle.link_laws.proofs.{Lists.map_twice, Objects.reloc_fixup, Relocs.number_bytes, Standing.IsPlaced}
+use Rattle.link_laws.proofs.{Lists.map_twice, Objects.reloc_fixup, Relocs.number_bytes, Taken.IsPlaced}
 
 -- ---- one object gets the places that its listing had: its bytes with zeros at some numbers are filled in with these numbers again
 
@@ -39,24 +41,21 @@ put_agrees : (whole bytes over : List ℕ) (at i : ℕ) → length bytes ≡ len
     ((i < at) ⊎ (at + 8 ≤ i) → get_or bytes i 0 ≡ get_or whole i 0) → get_or (put_at bytes at over) i 0 ≡ get_or whole i 0
 put_agrees whole bytes over at i long is within low else_same =
     let eight : length over ≡ 8 = ap length is ∙ length-take-le 8 (drop at whole) (omega (arith, length-drop at whole, within)) in
+    let fits : at + length over ≤ length bytes = omega (arith, eight, long, within) in
     ⊎_elim
-    (λ before. put_before bytes at over i (omega (arith, eight, long, within)) before ∙ else_same (inl before))
+    (λ before. put_before bytes at over i fits before ∙ else_same (inl before))
     (λ after. ⊎_elim
     (λ inside.
-    let j : ℕ = i - at in
-    let here : at + j ≡ i = omega (arith, after) in
-    let put : get_or (put_at bytes at over) (at + j) 0 ≡ get_or over j 0 = put_inside bytes at over j (omega
-    (arith, eight, long, within)) (omega (arith, eight, inside, after)) in
-    let from : get_or over j 0 ≡ get_or whole (at + j) 0 = ap (λ xs. get_or xs j 0) is
-    ∙ (get_or-take 8 (drop at whole) j 0 (omega (arith, inside, after)) ∙ get_or-drop at whole j 0) in
-    ap (λ n. get_or (put_at bytes at over) n 0) (sym here) ∙ (put ∙ (from ∙ ap (λ n. get_or whole n 0) here)))
-    (λ behind. put_behind bytes at over i (omega (arith, eight, long, within)) (omega (arith, eight, behind)) ∙ else_same (inr behind))
+    let here : at + (i - at) ≡ i = omega (arith, after) in
+    let put = put_inside bytes at over (i - at) fits (omega (arith, eight, inside, after)) in
+    let from = get_or-take 8 (drop at whole) (i - at) 0 (omega (arith, inside, after)) ∙ get_or-drop at whole (i - at) 0 in
+    rw here at (put ∙ (ap (λ xs. get_or xs (i - at) 0) is ∙ from)))
+    (λ behind. put_behind bytes at over i fits (omega (arith, eight, behind)) ∙ else_same (inr behind))
     (cases_lt i (at + 8)))
     (cases_lt i at)
 
 outside : (i : ℕ) (f : Fixup) → (i < f.offset) ⊎ (f.offset + 8 ≤ i) → is_in i f ≡ false
-outside i f (inl low) = grind (arith, nat_tests)
-outside i f (inr high) = grind (arith, nat_tests)
+outside i f beside = grind (arith, nat_tests)
 
 -- Bytes of a whole with anything at the places of fixups, which fill in what the whole has there, become the whole.
 pub restored : (over : Fixup → List ℕ) (whole : List ℕ) (fs : List Fixup) (bytes : List ℕ) → Restore over whole fs
@@ -146,13 +145,8 @@ kept_back : (p : ℕ → Bool) (Q : Fixup → Type 0) (f : ℕ → Fixup) (rs : 
 kept_back p Q f [] all = tt
 kept_back p Q f (r ∷ rs) all =
     ⊎_elim
-    (λ yes.
-    let here = subst (λ b. AllByRecursion Q (map f (cond b (r ∷ filter p rs) (filter p rs)))) yes all in
-    (λ e. here.0, kept_back p Q f rs here.1))
-    (λ no. (
-      λ e. cc (sym no ∙ e),
-      kept_back p Q f rs (subst (λ b. AllByRecursion Q (map f (cond b (r ∷ filter p rs) (filter p rs)))) no all),
-    ))
+    (λ yes. let here = rw yes at all in (λ e. here.0, kept_back p Q f rs here.1))
+    (λ none. (λ e. cc (sym none ∙ e), kept_back p Q f rs (rw none at all)))
     (cases_Bool (p r))
 
 restore_all : (over : Fixup → List ℕ) (fix : ℕ → Fixup) (s : ℕ) (bytes : List ℕ) (rs : List ℕ) → ((r : ℕ) → (fix r).offset ≡ r - s)

@@ -1,11 +1,12 @@
 -- An instruction of a line that is read has a spelling, and its name, if any, stands where one may.
-use Rattle.link_laws.proofs.Common.{◌≡◌, inl, inr, ℕ, List, [], ◌∷◌, Option, Some, None, Result, Ok, Err, Bool, true, false, refl, subst}
-use Rattle.link_laws.proofs.Common.{cond, option_map, if◌then◌else◌, ◌==◌, ◌&&◌, ◌>>=◌, Insn, Size, AsmFault, InsnFits, Line, ⊤, IfOk}
-use Rattle.link_laws.proofs.Common.{or_else, is_name, Form, Directive, FormFits, bits_at, call_form, compare_form, compare_imm_form}
-use Rattle.link_laws.proofs.Common.{form_of, jump_end, jump_form, move_form, move_imm_form, move_imm_letters, move_letters, other_form}
-use Rattle.link_laws.proofs.Common.{relative_letter, signed_form, stem_form, stem_of, Statement, directed, directive_of, instruction, name}
-use Rattle.link_laws.proofs.Common.{starts_point, statement_of, trim, trim_front, until, without_comment, is_empty, word_part, both}
-use Rattle.link_laws.proofs.Common.{insn_in, insn_of, line_in, parted, statement_in, any_ok, insn_fits, kept_both, kept_made}
+use Rattle.link_laws.proofs.Common.{cond_both, ◌≡◌, inl, inr, ℕ, List, [], ◌∷◌, Option, Some, None, Result, Ok, Err, Bool, true, false}
+use Rattle.link_laws.proofs.Common.{refl, subst, cond, option_map, if◌then◌else◌, ◌==◌, ◌&&◌, ◌>>=◌, Insn, Size, AsmFault, InsnFits, Line}
+use Rattle.link_laws.proofs.Common.{⊤, IfOk, or_else, is_name, Form, Directive, FormFits, bits_at, call_form, compare_form}
+use Rattle.link_laws.proofs.Common.{compare_imm_form, form_of, jump_end, jump_form, move_form, move_imm_form, move_imm_letters}
+use Rattle.link_laws.proofs.Common.{move_letters, other_form, relative_letter, signed_form, stem_form, stem_of, Statement, directed}
+use Rattle.link_laws.proofs.Common.{directive_of, instruction, name, starts_point, statement_of, trim, trim_front, until, without_comment}
+use Rattle.link_laws.proofs.Common.{is_empty, word_part, both, insn_in, insn_of, line_in, parted, statement_in, any_ok, insn_fits}
+use Rattle.link_laws.proofs.Common.{kept_both, kept_made}
 use Rattle.std.specs.Prelude.{option_and_then}
 use Rattle.ebc_insn.specs.declared.Size.TheVariants as sizes
 use Rattle.asm_text.specs.declared.form.Form.TheVariants as forms
@@ -31,15 +32,13 @@ then_fits : {A : Type 0} (f : A → Option Form) (o : Option A) → ((a : A) →
 then_fits f None h = tt
 then_fits f (Some a) h = h a
 
-bits_index : (one two three : Bool) (f : ℕ → Option Form) → FitsForm (f 16) → FitsForm (f 32) → FitsForm (f 64) →
-    FitsForm (option_and_then f (if one then Some 16 else if two then Some 32 else if three then Some 64 else None))
-bits_index true two three f h g i = h
-bits_index false true three f h g i = g
-bits_index false false true f h g i = i
-bits_index false false false f h g i = tt
+-- what holds of each of the numbers of bits that a letter may name, and where it names none
+bits_by : (b : ℕ) (P : Option ℕ → Type 0) → P (Some 16) → P (Some 32) → P (Some 64) → P None → P (bits_at b)
+bits_by b P h g i n =
+    cond_both (b == 119) _ _ P (λ e. h) (λ e. cond_both (b == 100) _ _ P (λ e. g) (λ e. cond_both (b == 113) _ _ P (λ e. i) (λ e. n)))
 
 bits_fits : (b : ℕ) (f : ℕ → Option Form) → FitsForm (f 16) → FitsForm (f 32) → FitsForm (f 64) → FitsForm (option_and_then f (bits_at b))
-bits_fits b f h g i = bits_index (b == 119) (b == 100) (b == 113) f h g i
+bits_fits b f h g i = bits_by b (λ o. FitsForm (option_and_then f o)) h g i tt
 
 move_fits : (size : Size) (b : ℕ) → FitsForm (option_and_then (λ bits. move_form size bits) (bits_at b))
 move_fits sizes.Qword b = bits_fits b (λ bits. move_form sizes.Qword bits) (inl refl) (inr (inl refl)) (inr (inr refl))
@@ -59,17 +58,10 @@ imm_letters_fit : (s : List ℕ) → FitsForm (move_imm_letters s)
 imm_letters_fit (s ∷ w ∷ []) = search (then_fits, move_imm_fits)
 imm_letters_fit xs = tt
 
-mapped_bits : (one two three : Bool) →
-    FitsForm (option_map (λ bits. forms.MoveRelative bits)
-    (if one then Some 16 else if two then Some 32 else if three then Some 64 else None))
-mapped_bits true two three = inl refl
-mapped_bits false true three = inr (inl refl)
-mapped_bits false false true = inr (inr refl)
-mapped_bits false false false = tt
-
 relative_fits : (s : List ℕ) → FitsForm (relative_letter s)
 relative_fits [] = tt
-relative_fits (w ∷ []) = mapped_bits (w == 119) (w == 100) (w == 113)
+relative_fits (w ∷ []) =
+    bits_by w (λ o. FitsForm (option_map (λ bits. forms.MoveRelative bits) o)) (inl refl) (inr (inl refl)) (inr (inr refl)) tt
 relative_fits (w ∷ x ∷ rest) = tt
 
 jump_end_fits : (far : Bool) (s : List ℕ) → FitsForm (jump_end far s)

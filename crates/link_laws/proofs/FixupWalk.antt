@@ -1,15 +1,15 @@
 -- The names that the lines of a section use are the targets of its relocations, each where the relocation is.
-use Rattle.link_laws.proofs.Common.{◌≡◌, ◌⊎◌, inl, inr, ℕ, ◌+◌, ◌-◌, ◌<◌, ◌≤◌, List, [], ◌∷◌, ◌++◌, length, map, take, drop, replicate}
-use Rattle.link_laws.proofs.Common.{Option, Some, None, Ok, Bool, true, false, not, cond, ◌&&◌, ◌||◌, refl, sym, ap, ◌∙◌, arith, ⊎_elim}
-use Rattle.link_laws.proofs.Common.{length-append, length-take-le, append_assoc, nat_lt, nat_le, nat_eq, AllByRecursion, filter, find}
-use Rattle.link_laws.proofs.Common.{list_all, list_any, option_and_then, w64, to_le_bytes, or_cases, eqb-true, cases_lt, map-append}
+use Rattle.link_laws.proofs.Common.{and_parts, ◌≡◌, ◌⊎◌, inl, inr, ℕ, ◌+◌, ◌-◌, ◌<◌, ◌≤◌, List, [], ◌∷◌, ◌++◌, length, map, take, drop}
+use Rattle.link_laws.proofs.Common.{replicate, Option, Some, None, Ok, Bool, true, false, not, cond, ◌&&◌, ◌||◌, refl, sym, ap, ◌∙◌, arith}
+use Rattle.link_laws.proofs.Common.{⊎_elim, length-append, length-take-le, append_assoc, nat_lt, nat_le, nat_eq, AllByRecursion, filter}
+use Rattle.link_laws.proofs.Common.{find, list_all, list_any, option_and_then, w64, to_le_bytes, or_cases, eqb-true, cases_lt, map-append}
 use Rattle.link_laws.proofs.Common.{label_lines, lines_from, nat_tests, Insn, Spells, spelling, read, read_length, read_spells, IsBytes}
 use Rattle.link_laws.proofs.Common.{Listed, named_place, Image, in_section, label_before, lies_on, named, place_at, takes_label, with_label}
 use Rattle.link_laws.proofs.Common.{without_immediate, is_some, false_from_ne_true}
-use Rattle.link_laws.proofs.Lists.{all_at, all_of, each_of, each_of_both, fails_of, keep_none, keep_same, none_found, passes_of, same_test}
-use Rattle.link_laws.proofs.ItemLaws.{IsItem, byte_here, fine, insn_here, label_taken, labels_by, line_bytes, place_here, reloc_ends}
-use Rattle.link_laws.proofs.ItemLaws.{word_here}
-use Rattle.link_laws.proofs.{FillLaws.EndsWith, FillLaws.labels_fill, Walks.IsStep, Walks.walk}
+use Rattle.link_laws.proofs.Lists.{all_at, all_of, each_of, each_of_both, fails_of, keep_none, keep_same, none_found, passes_of}
+use Rattle.link_laws.proofs.{ItemLaws.IsItem, ItemLaws.byte_here, ItemLaws.fine, ItemLaws.insn_here, ItemLaws.label_taken}
+use Rattle.link_laws.proofs.{ItemLaws.labels_by, ItemLaws.line_bytes, ItemLaws.place_here, ItemLaws.reloc_ends, ItemLaws.word_here}
+use Rattle.link_laws.proofs.{Immediates.EndsWith, Immediates.labels_fill, SectionLaws.IsStep, SectionLaws.walk}
 use Rattle.asm_text.specs.declared.listing.Listed.TheVariants as listed
 
 -- ---- what lines name
@@ -41,76 +41,46 @@ Ascend [] = Unit {0}
 Ascend (r ∷ rs) = AllByRecursion (λ q. r + 8 ≤ q) rs × Ascend rs
 
 none_past : (x n : ℕ) (rs : List ℕ) → AllByRecursion (λ q. x + n ≤ q) rs → filter (in_range x n) rs ≡ []
-none_past x n rs all =
-    keep_none (in_range x n) rs
-    (each_of (λ q. x + n ≤ q) (λ q. in_range x n q ≡ false) rs (λ q far. grind (arith, nat_tests)) all)
-
--- one of ascending places is there once
-sole_kept : (x : ℕ) (rs : List ℕ) → Ascend rs → list_any (nat_eq x) rs ≡ true → filter (nat_eq x) rs ≡ x ∷ []
-sole_kept x [] up here = cc here
-sole_kept x (r ∷ rs) up here =
-    ⊎_elim
-    (λ yes.
-    let same : x ≡ r = eqb-true x r yes in
-    let none = keep_none (nat_eq x) rs (each_of (λ q. r + 8 ≤ q) (λ q. nat_eq x q ≡ false) rs (λ q far. grind (arith, nat_tests)) up.0) in
-    rw (yes, none) (ap (λ q. q ∷ []) (sym same)))
-    (λ later.
-    let far : r + 8 ≤ x = all_at (λ q. r + 8 ≤ q) rs x up.0 later in
-    let no : nat_eq x r ≡ false = grind (arith, nat_tests) in
-    rw no (sole_kept x rs up.1 later))
-    (or_cases (nat_eq x r) _ here)
-
--- the places among which one lies that is one of them
-parted_by : (x : ℕ) (rs : List ℕ) → Ascend rs → list_any (nat_eq x) rs ≡ true
-    → AllByRecursion (λ r. (r ≡ x) ⊎ ((r + 8 ≤ x) ⊎ (x + 8 ≤ r))) rs
-parted_by x [] up here = tt
-parted_by x (r ∷ rs) up here =
-    ⊎_elim
-    (λ yes.
-    let same : x ≡ r = eqb-true x r yes in (
-      inl (sym same),
-      each_of (λ q. r + 8 ≤ q) (λ q. (q ≡ x) ⊎ ((q + 8 ≤ x) ⊎ (x + 8 ≤ q))) rs (λ q far. inr (inr (omega (arith, far, same)))) up.0,
-    ))
-    (λ later. (inr (inl (all_at (λ q. r + 8 ≤ q) rs x up.0 later)), parted_by x rs up.1 later))
-    (or_cases (nat_eq x r) _ here)
+none_past x n [] all = refl
+none_past x n (r ∷ rs) all = grind (arith, nat_tests, none_past x n rs all.1)
 
 -- the one at a place
 at_place : (x : ℕ) (rs : List ℕ) → Ascend rs → list_any (nat_eq x) rs ≡ true → filter (in_range x 8) rs ≡ x ∷ []
-at_place x rs up here =
-    keep_same (in_range x 8) (nat_eq x) rs
-    (each_of (λ r. (r ≡ x) ⊎ ((r + 8 ≤ x) ⊎ (x + 8 ≤ r))) (λ r. in_range x 8 r ≡ nat_eq x r) rs
-    (λ r parted. same_test (in_range x 8 r) (nat_eq x r) (λ e. is_there r e parted) (λ e. grind (arith, nat_tests)))
-    (parted_by x rs up here))
-    ∙ sole_kept x rs up here
-  where
-    is_there : (r : ℕ) → in_range x 8 r ≡ true → (r ≡ x) ⊎ ((r + 8 ≤ x) ⊎ (x + 8 ≤ r)) → nat_eq x r ≡ true
-    is_there r e (inl same) = grind (arith, nat_tests)
-    is_there r e (inr (inl low)) = grind (arith, nat_tests)
-    is_there r e (inr (inr high)) = grind (arith, nat_tests)
+at_place x [] up here = cc here
+at_place x (r ∷ rs) up here =
+    ⊎_elim
+    (λ yes.
+    let same : x ≡ r = eqb-true x r yes in
+    let none = none_past x 8 rs (each_of (λ q. r + 8 ≤ q) (λ q. x + 8 ≤ q) rs (λ q far. omega (arith, far, same)) up.0) in
+    grind (arith, nat_tests))
+    (λ later.
+    let far : r + 8 ≤ x = all_at (λ q. r + 8 ≤ q) rs x up.0 later in
+    grind (arith, nat_tests, at_place x rs up.1 later))
+    (or_cases (nat_eq x r) _ here)
 
 -- none on a word
 none_on : (x n : ℕ) (rs : List ℕ) → list_any (lies_on x n) rs ≡ false → filter (in_range x n) rs ≡ []
-none_on x n rs free =
-    keep_none (in_range x n) rs
-    (each_of (λ r. lies_on x n r ≡ false) (λ r. in_range x n r ≡ false) rs (λ r out. grind (arith, nat_tests))
-    (fails_of (lies_on x n) rs free))
+none_on x n [] free = refl
+none_on x n (r ∷ rs) free = grind (arith, nat_tests, none_on x n rs (grind arith))
 
 -- that of an immediate on an instruction, or none
 fine_end : (image : Image) (i : Insn) (x n r : ℕ) → fine image i x n r ≡ true → in_range x n r ≡ true → r + 8 ≡ x + n
-fine_end image i x n r ok there = ends (takes_label i) (is_some (named image r)) ok
-  where
-    ends : (t s : Bool) → (not (lies_on x n r) || (t && nat_eq (r + 8) (x + n) && s)) ≡ true → r + 8 ≡ x + n
-    ends t s h = grind (arith, nat_tests)
+fine_end image i x n r ok there = grind (arith, nat_tests)
 
 one_on : (image : Image) (i : Insn) (x n r : ℕ) (rs : List ℕ) → 8 ≤ n → Ascend rs → list_all (fine image i x n) rs ≡ true
     → list_any (nat_eq r) rs ≡ true → r + 8 ≡ x + n → filter (in_range x n) rs ≡ r ∷ []
-one_on image i x n r rs long up all here ends =
-    keep_same (in_range x n) (nat_eq r) rs
-    (each_of (λ q. fine image i x n q ≡ true) (λ q. in_range x n q ≡ nat_eq r q) rs
-    (λ q ok. same_test (in_range x n q) (nat_eq r q)
-    (λ e. let end = fine_end image i x n q ok e in grind (arith, nat_tests)) (λ e. grind (arith, nat_tests)))
-    (passes_of (fine image i x n) rs all))
-    ∙ sole_kept r rs up here
+one_on image i x n r [] long up all here ends = cc here
+one_on image i x n r (q ∷ rs) long up all here ends =
+    let fit = and_parts (fine image i x n q) (list_all (fine image i x n) rs) all in
+    ⊎_elim
+    (λ yes.
+    let same : r ≡ q = eqb-true r q yes in
+    let none = none_past x n rs (each_of (λ p. q + 8 ≤ p) (λ p. x + n ≤ p) rs (λ p far. omega (arith, far, same, ends)) up.0) in
+    grind (arith, nat_tests))
+    (λ later.
+    let far : q + 8 ≤ r = all_at (λ p. q + 8 ≤ p) rs r up.0 later in
+    grind (arith, nat_tests, fine_end image i x n q fit.0, one_on image i x n r rs long up.1 fit.1 later ends))
+    (or_cases (nat_eq r q) _ here)
 
 none_fine : (image : Image) (i : Insn) (x n : ℕ) (rs : List ℕ) → list_all (fine image i x n) rs ≡ true
     → find (λ r. nat_eq (r + 8) (x + n)) rs ≡ None → filter (in_range x n) rs ≡ []
@@ -126,25 +96,14 @@ pub range_split : (x n m : ℕ) (rs : List ℕ) → Ascend rs
 range_split x n m [] up = refl
 range_split x n m (r ∷ rs) up =
     ⊎_elim
-    (λ low.
-    let whole : in_range x (n + m) r ≡ in_range x n r =
-    same_test _ _ (λ e. grind (arith, nat_tests)) (λ e. grind (arith, nat_tests)) in
-    let none : in_range (x + n) m r ≡ false = grind (arith, nat_tests) in
-    rw (whole, none) (either (in_range x n r) (range_split x n m rs up.1)))
+    (λ low. grind (arith, nat_tests, range_split x n m rs up.1))
     (λ high.
     let all : AllByRecursion (λ q. x + n ≤ q) (r ∷ rs) =
     (high, each_of (λ q. r + 8 ≤ q) (λ q. x + n ≤ q) rs (λ q far. omega (arith, far, high)) up.0) in
     keep_same (in_range x (n + m)) (in_range (x + n) m) (r ∷ rs)
-    (each_of (λ q. x + n ≤ q) (λ q. in_range x (n + m) q ≡ in_range (x + n) m q) (r ∷ rs)
-    (λ q far. same_test _ _ (λ e. grind (arith, nat_tests)) (λ e. grind (arith, nat_tests))) all)
+    (each_of (λ q. x + n ≤ q) (λ q. in_range x (n + m) q ≡ in_range (x + n) m q) (r ∷ rs) (λ q far. grind (arith, nat_tests)) all)
     ∙ ap (λ qs. qs ++ filter (in_range (x + n) m) (r ∷ rs)) (sym (none_past x n (r ∷ rs) all)))
     (cases_lt r (x + n))
-  where
-    either : (b : Bool) → filter (in_range x (n + m)) rs ≡ filter (in_range x n) rs ++ filter (in_range (x + n) m) rs
-        → cond b (r ∷ filter (in_range x (n + m)) rs) (filter (in_range x (n + m)) rs)
-        ≡ cond b (r ∷ filter (in_range x n) rs) (filter (in_range x n) rs) ++ filter (in_range (x + n) m) rs
-    either true later = ap (λ qs. r ∷ qs) later
-    either false later = later
 
 -- ---- what is listed at a place names the relocations there
 

@@ -1,14 +1,14 @@
 -- What is listed at a place: the first of four that applies. It has the bytes of the place, but for those that a label stands for.
-use Rattle.link_laws.proofs.Common.{◌≡◌, ℕ, zero, suc, ◌+◌, ◌*◌, ◌/◌, ◌%◌, ◌<◌, ◌≤◌, List, [], ◌∷◌, ◌++◌, length, get_or, take, replicate}
-use Rattle.link_laws.proofs.Common.{Option, Some, None, Result, Ok, Err, Bool, true, false, not, cond, ◌&&◌, ◌||◌, refl, sym, ap, ◌∙◌}
-use Rattle.link_laws.proofs.Common.{arith, ⊎_elim, length-append, length-take-le, nat_le, option_map, nat_eq, find, list_all, list_any}
-use Rattle.link_laws.proofs.Common.{option_and_then, option_or, unwrap_or, w64, to_le_bytes, cases_lt, cond_both, eqb-true, or_left, IfSome}
-use Rattle.link_laws.proofs.Common.{nat_tests, get_or_append_left, get_or-take, Insn, Spells, field_bytes, int_raw, spelling, DecodeFault}
-use Rattle.link_laws.proofs.Common.{read, read_length, read_spells, IsBytes, signed_whole, Listed, listed_line, signed_at, bytes_of, is_of}
-use Rattle.link_laws.proofs.Common.{Image, byte_at, if_whole, insn_at, is_cut, is_of_immediate, is_whole, item_at, label_before}
-use Rattle.link_laws.proofs.Common.{label_lines, labels, lies_on, named, place_at, takes_label, with_label, without_immediate, word_at}
-use Rattle.link_laws.proofs.Common.{is_some}
-use Rattle.link_laws.proofs.{FillLaws.EndsWith, FillLaws.labels_fill, Lists.all_at, Lists.found_in, Lists.passes_of}
+use Rattle.link_laws.proofs.Common.{get_or_append_left, ◌≡◌, ℕ, zero, suc, ◌+◌, ◌*◌, ◌/◌, ◌%◌, ◌<◌, ◌≤◌, List, [], ◌∷◌, ◌++◌, length}
+use Rattle.link_laws.proofs.Common.{get_or, take, replicate, Option, Some, None, Result, Ok, Err, Bool, true, false, not, cond, ◌&&◌, ◌||◌}
+use Rattle.link_laws.proofs.Common.{refl, sym, ap, ◌∙◌, arith, ⊎_elim, length-append, length-take-le, nat_le, option_map, nat_eq, find}
+use Rattle.link_laws.proofs.Common.{list_all, list_any, option_and_then, option_or, unwrap_or, w64, to_le_bytes, cases_lt, cond_both}
+use Rattle.link_laws.proofs.Common.{eqb-true, or_left, IfSome, nat_tests, get_or-take, Insn, Spells, field_bytes, int_raw, spelling}
+use Rattle.link_laws.proofs.Common.{DecodeFault, read, read_length, read_spells, IsBytes, signed_whole, Listed, listed_line, signed_at}
+use Rattle.link_laws.proofs.Common.{bytes_of, is_of, Image, byte_at, if_whole, insn_at, is_cut, is_of_immediate, is_whole, item_at}
+use Rattle.link_laws.proofs.Common.{label_before, label_lines, labels, lies_on, named, place_at, takes_label, with_label, without_immediate}
+use Rattle.link_laws.proofs.Common.{word_at, is_some}
+use Rattle.link_laws.proofs.{Immediates.EndsWith, Immediates.labels_fill, Lists.all_at, Lists.found_in, Lists.passes_of}
 use Rattle.asm_text.specs.declared.listing.Listed.TheVariants as listed
 
 -- the bytes of a line of a listing
@@ -59,23 +59,18 @@ insn_is : (image : Image) (code : Bool) (x : ℕ) (bytes : List ℕ) (r : Result
     → IfSome (if_whole image x r) (IsItem image code x bytes)
 unfolding is_whole
 insn_is image code x bytes (Err f) is in_code = tt
-insn_is image code x bytes (Ok (i, n)) is in_code = either (is_cut image x n) (list_all (fine image i x n) image.relocs) refl refl
-  where
-    either : (a b : Bool) → is_cut image x n ≡ a → list_all (fine image i x n) image.relocs ≡ b
-        → IfSome (cond (not a && b) (Some (with_label i (label_before image (x + n)), n)) None) (IsItem image code x bytes)
-    either false true e f = insn_here bytes i n in_code is e f
-    either a b e f = tt
+insn_is image code x bytes (Ok (i, n)) is in_code =
+    cond_both (not (is_cut image x n) && list_all (fine image i x n) image.relocs)
+    (Some (with_label i (label_before image (x + n)), n)) None
+    (λ o. IfSome o (IsItem image code x bytes)) (λ e. insn_here bytes i n in_code is (grind arith) (grind arith)) (λ e. tt)
 
 word_is : (image : Image) (code : Bool) (x : ℕ) (bytes : List ℕ) → IfSome (word_at image x bytes) (IsItem image code x bytes)
 unfolding word_at
 word_is image code x [] = tt
 word_is image code x (b ∷ []) = tt
-word_is image code x (b ∷ c ∷ rest) = either (is_cut image x 2) (list_any (lies_on x 2) image.relocs) refl refl
-  where
-    either : (a d : Bool) → is_cut image x 2 ≡ a → list_any (lies_on x 2) image.relocs ≡ d
-        → IfSome (cond (not a && not d) (Some (listed.Word (b + 256 * c), 2)) None) (IsItem image code x (b ∷ c ∷ rest))
-    either false false e f = word_here b c rest e f
-    either a d e f = tt
+word_is image code x (b ∷ c ∷ rest) =
+    cond_both (not (is_cut image x 2) && not (list_any (lies_on x 2) image.relocs)) (Some (listed.Word (b + 256 * c), 2)) None
+    (λ o. IfSome o (IsItem image code x (b ∷ c ∷ rest))) (λ e. word_here b c rest (grind arith) (grind arith)) (λ e. tt)
 
 pub item_is : (image : Image) (code : Bool) (x b : ℕ) (bytes : List ℕ)
     → IsItem image code x (b ∷ bytes) (item_at image code x (b ∷ bytes))
@@ -113,8 +108,7 @@ reloc_ends rs next r found =
     (f.0, grind (arith, nat_tests))
 
 takes_it : (t s : Bool) (x n r : ℕ) → 2 ≤ n → r + 8 ≡ x + n → (not (lies_on x n r) || (t && nat_eq (r + 8) (x + n) && s)) ≡ true → t ≡ true
-takes_it true s x n r some ends h = refl
-takes_it false s x n r some ends h = let lies : lies_on x n r ≡ true = grind (arith, nat_tests) in cc (rw lies at h)
+takes_it t s x n r some ends h = grind (arith, nat_tests)
 
 -- a relocation that ends where an instruction ends is that of an immediate that a label may stand for
 pub label_taken : (image : Image) (i : Insn) (x n : ℕ) (rs : List ℕ) (r : ℕ) → 2 ≤ n → list_all (fine image i x n) rs ≡ true
@@ -179,13 +173,8 @@ word_of image x b c bytes low high =
       long = ap length is;
       some = omega arith;
       within = omega arith;
-      same = λ k small free. ap (λ bs. get_or bs k 0) is ∙ two k small;
+      same = λ k small free. ap (λ bs. get_or bs k 0) is ∙ sym (get_or_append_left (b ∷ c ∷ []) bytes 0 k small);
     }
-  where
-    two : (k : ℕ) → k < 2 → get_or (b ∷ c ∷ []) k 0 ≡ get_or (b ∷ c ∷ bytes) k 0
-    two zero s = refl
-    two (suc zero) s = refl
-    two (suc (suc k)) s = absurd (omega (arith, s))
 
 byte_of : (image : Image) (x b : ℕ) (bytes : List ℕ) → b < 256 → ItemOf image x (b ∷ bytes) (listed.Byte b, 1)
 byte_of image x b bytes low =
@@ -194,12 +183,8 @@ byte_of image x b bytes low =
       long = ap length is;
       some = omega arith;
       within = omega arith;
-      same = λ k small free. ap (λ bs. get_or bs k 0) is ∙ one k small;
+      same = λ k small free. ap (λ bs. get_or bs k 0) is ∙ sym (get_or_append_left (b ∷ []) bytes 0 k small);
     }
-  where
-    one : (k : ℕ) → k < 1 → get_or (b ∷ []) k 0 ≡ get_or (b ∷ bytes) k 0
-    one zero s = refl
-    one (suc k) s = absurd (omega (arith, s))
 
 label_case : (image : Image) (x : ℕ) (bytes : List ℕ) (i : Insn) (n : ℕ) (f o : Option ℕ) → IsBytes bytes → read bytes ≡ Ok (i, n)
     → o ≡ option_and_then (named image) f → ((r : ℕ) → f ≡ Some r → takes_label i ≡ true)

@@ -1,20 +1,61 @@
 -- The listing of an image in the linker's layout: its lines, their texts, and the source that they are.
-use Rattle.link_laws.proofs.Common.{◌≡◌, ℕ, ◌+◌, ◌-◌, ◌/◌, ◌%◌, ◌^◌, ◌<◌, ◌≤◌, List, [], ◌∷◌, ◌++◌, length, map, Bool, codes, true, false}
-use Rattle.link_laws.proofs.Common.{Ok, refl, sym, ap, subst, ◌∙◌, arith, append_assoc, append-nil, nat_eq, AllByRecursion, flat_map}
-use Rattle.link_laws.proofs.Common.{list_any, or_from, nat_tests, flat_map-append, map-append, All-from_recursion, all_append, IsBytes}
-use Rattle.link_laws.proofs.Common.{most, Listed, label_text, ListedFits, listed_line, listed_text, ends_in_data, section_of, behind_ok}
-use Rattle.link_laws.proofs.Common.{behind, is_defined, lines_behind, object_in, object_of, is_labelled, Image, next_place, rounded, zeros}
+use Rattle.link_laws.proofs.Common.{◌≡◌, ℕ, List, [], ◌∷◌, ◌++◌, map, Some, true, not, ◌==◌, refl, ap, ◌∙◌, append_assoc, codes, All}
+use Rattle.link_laws.proofs.Common.{All-head, All-tail, and_from, Listed, label_text, hex_text, ListedFits, listed_text, text_of}
+use Rattle.link_laws.proofs.Common.{list_all-append, lacks, line_cut, lines_of, clean, clean_append, clean_hex, clean_lacks, text_good}
+use Rattle.link_laws.proofs.Common.{until_first, ◌+◌, ◌-◌, ◌/◌, ◌%◌, ◌^◌, ◌<◌, ◌≤◌, length, Bool, false, Ok, sym, subst, arith, append-nil}
+use Rattle.link_laws.proofs.Common.{nat_eq, AllByRecursion, flat_map, list_any, or_from, nat_tests, flat_map-append, map-append}
+use Rattle.link_laws.proofs.Common.{All-from_recursion, all_append, IsBytes, most, listed_line, ends_in_data, section_of, behind_ok, behind}
+use Rattle.link_laws.proofs.Common.{is_defined, lines_behind, object_in, object_of, is_labelled, Image, next_place, rounded, zeros}
 use Rattle.link_laws.proofs.Common.{linked_sections, section_if, text_sections, label_lines, labels, Line, Section, lines_from, listing_of}
-use Rattle.link_laws.proofs.Common.{text_of, heading, section_lines}
-use Rattle.ebc_disasm.specs.Listings.{lines_of}
+use Rattle.link_laws.proofs.Common.{heading, section_lines}
+use Rattle.std.proofs.Common.{unwrap_or}
+use Rattle.ebc_asm.proofs.SourceLaws.{next_lines}
+use Rattle.ebc_disasm.specs.Listings.{lines_of as image_lines}
 use Rattle.link_laws.proofs.Taken.{AreTaken, IsFresh, Stand, data_behind, defined_in, lines_taken, section_taken, stand_more, taken_append}
+use Rattle.link_laws.proofs.Taken.{IsPlaced, code_stands, data_stands, placed_at}
 use Rattle.link_laws.proofs.{PlaceLaws.AreUncut, PlaceLaws.Splits, PlaceLaws.is_label_of, PlaceLaws.label_at, PlaceLaws.no_label}
-use Rattle.link_laws.proofs.{PlaceLaws.not_item, Standing.IsPlaced, Standing.code_stands, Standing.data_stands, Standing.placed_at}
-use Rattle.link_laws.proofs.{LineLaws.lines_again, Lists.all_front, Lists.each_of, Lists.none_append, Lists.none_passes}
-use Rattle.link_laws.proofs.{SectionLaws.section_agrees, Walks.IsStep, Walks.walk, Bodies.AreLow, Bodies.IsLabelled, Lines.IsLine}
-use Rattle.link_laws.proofs.{Lines.is_head, Lines.lines_are, Sources.IsLowLabel, Sources.none_labelled, Sources.source}
+use Rattle.link_laws.proofs.{PlaceLaws.not_item, Lists.all_front, Lists.each_of, Lists.none_append, Lists.none_passes}
+use Rattle.link_laws.proofs.{SectionLaws.section_agrees, SectionLaws.IsStep, SectionLaws.walk, Bodies.AreLow, Bodies.IsLabelled}
+use Rattle.link_laws.proofs.{Bodies.IsLine, Bodies.is_head, Bodies.lines_are, Sources.IsLowLabel, Sources.none_labelled, Sources.source}
 use Rattle.asm_text.specs.declared.listing.Listed.TheVariants as listed
 use Rattle.asm_text.specs.Splits as splits
+
+-- no line feed in what a clean text has
+no_feed : (t : List ℕ) → clean t ≡ true → lacks 10 t ≡ true
+no_feed t c = clean_lacks 10 t refl c
+
+-- no line of a listing has a line feed
+one_line : (l : Listed) → ListedFits l → lacks 10 (listed_text l) ≡ true
+unfolding listed_text clean lacks
+one_line listed.Code fits = refl
+one_line listed.Data fits = refl
+one_line (listed.Label place) fits =
+    let label : lacks 10 (label_text place) ≡ true = no_feed (label_text place) (clean_append (codes "L") (hex_text 8 place) refl
+    (clean_hex 8 place)) in
+    list_all-append (λ x. not (x == 10)) (label_text place) (codes ":") ∙ and_from _ _ label refl
+one_line (listed.Global place) fits = no_feed (codes ".global "
+    ++ label_text place) (clean_append (codes ".global L") (hex_text 8 place) refl (clean_hex 8 place))
+one_line (listed.Place place) fits = no_feed (codes ".dq " ++ label_text place) (clean_append (codes ".dq L") (hex_text 8 place) refl
+    (clean_hex 8 place))
+one_line (listed.Word n) fits = no_feed (codes ".dw 0x" ++ hex_text 4 n) (clean_append (codes ".dw 0x") (hex_text 4 n) refl (clean_hex 4 n))
+one_line (listed.Byte n) fits = no_feed (codes ".db 0x" ++ hex_text 2 n) (clean_append (codes ".db 0x") (hex_text 2 n) refl (clean_hex 2 n))
+one_line (listed.Instruction i place) fits = no_feed (listed_text (listed.Instruction i place)) (text_good i place fits.0).clean
+
+-- the first line of a text
+first_cut : (t rest : List ℕ) → lacks 10 t ≡ true → line_cut (t ++ 10 ∷ rest) ≡ Some (t, rest)
+unfolding line_cut
+first_cut [] rest none = ap (λ o. Some (unwrap_or o (10 ∷ rest, []))) (until_first 10 [] rest none)
+first_cut (b ∷ bs) rest none = ap (λ o. Some (unwrap_or o (b ∷ (bs ++ 10 ∷ rest), []))) (until_first 10 (b ∷ bs) rest none)
+
+-- The text of a listing is its lines.
+pub lines_again : (ls : List Listed) → All ListedFits ls → lines_of (text_of ls) ≡ map listed_text ls
+unfolding text_of lines_of
+lines_again [] fits = refl
+lines_again (l ∷ ls) fits =
+    let rest = lines_again ls (All-tail ListedFits l ls fits) in
+    let parted : text_of (l ∷ ls) ≡ listed_text l ++ 10 ∷ text_of ls = append_assoc (listed_text l) (10 ∷ []) (text_of ls) in
+    ap lines_of parted ∙ (next_lines (listed_text l ++ 10 ∷ text_of ls) (listed_text l) (text_of ls) (first_cut (listed_text l)
+    (text_of ls) (one_line l (All-head ListedFits l ls fits))) ∙ ap (λ ts. listed_text l ∷ ts) rest)
 
 -- ---- the lines of an image
 
@@ -61,8 +102,8 @@ data_by image place (b ∷ bs) P none some = some
 
 -- the lines of an image with some code
 pub lines_are_all : (image : Image) (b : ℕ) (bs contents : List ℕ) → image.sections ≡ linked_sections (b ∷ bs) contents
-    → lines_of image ≡ all_lines image (b ∷ bs) contents
-unfolding lines_of linked_sections next_place
+    → image_lines image ≡ all_lines image (b ∷ bs) contents
+unfolding image_lines linked_sections next_place
 lines_are_all image b bs contents is =
     let place : ℕ = data_place (b ∷ bs) in
     let data_ : List Section = section_if data_name 0xC0000040 place contents in

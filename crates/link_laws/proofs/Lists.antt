@@ -57,11 +57,6 @@ all_members (r ∷ rs) =
 
 -- ---- tests of each element
 
--- two tests that pass together are one
-pub same_test : (a b : Bool) → (a ≡ true → b ≡ true) → (b ≡ true → a ≡ true) → a ≡ b
-same_test true b there back = sym (there refl)
-same_test false b there back = sym (false_from_ne_true b (λ e. cc (back e)))
-
 pub all_pass : {A : Type 0} (p : A → Bool) (xs : List A) → AllByRecursion (λ x. p x ≡ true) xs → list_all p xs ≡ true
 all_pass p [] all = refl
 all_pass p (x ∷ xs) all = and_from _ _ all.0 (all_pass p xs all.1)
@@ -96,14 +91,7 @@ none_found p (x ∷ xs) e = ⊎_elim (λ yes. cc (rw yes at e)) (λ no. (no, non
 
 pub found_in : (p : ℕ → Bool) (rs : List ℕ) (r : ℕ) → find p rs ≡ Some r → (list_any (nat_eq r) rs ≡ true) × (p r ≡ true)
 found_in p [] r e = cc e
-found_in p (q ∷ rs) r e =
-    ⊎_elim
-    (λ yes.
-    let is : Some q ≡ Some r = rw yes at e in
-    let same : q ≡ r = same_Some q r is in
-    (or_left _ _ (eq-eqb r q (sym same)), subst (λ t. p t ≡ true) same yes))
-    (λ no. let later = found_in p rs r (rw no at e) in (or_right (nat_eq r q) _ later.0, later.1))
-    (cases_Bool (p q))
+found_in p (q ∷ rs) r e = grind (arith, nat_tests, found_in p rs r)
 
 -- ---- what is kept
 

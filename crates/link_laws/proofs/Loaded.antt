@@ -1,36 +1,80 @@
--- An instruction of a source in the image that its object is linked to, loaded at a base.
-use Rattle.link_laws.proofs.Common.{Bool, inl, inr, List, None, Ok, Option, Some, [], ap, append_assoc, arith, false, get_or, if◌then◌else◌}
-use Rattle.link_laws.proofs.Common.{length, length-append, length-take-le, map, refl, replicate, subst, sym, take, true, ℕ, ℤ, ⊎_elim, ◌%◌}
-use Rattle.link_laws.proofs.Common.{◌*◌, ◌++◌, ◌+◌, ◌-◌, ◌/◌, ◌<◌, ◌^◌, ◌∙◌, ◌∷◌, ◌≡◌, ◌≤◌, to_le_bytes, w64, AllByRecursion, Contains, All}
-use Rattle.link_laws.proofs.Common.{AllPairs, codes, ◌==◌, bytes_eq, cases_lt, nat_tests, get_or-append-add, get_or-take}
-use Rattle.link_laws.proofs.Common.{get_or_append_left, length-replicate, length-map, recursion_from_All, same_Some, get_name, is_named}
-use Rattle.link_laws.proofs.Common.{name_number, WellFormed, spelling, Insn, little_endian-below, get_or-to_le_bytes, little_endian}
-use Rattle.link_laws.proofs.Common.{signed_at, IsObject, width, Fixup, Object, Symbol, InsnFits, TakesName, Line, file_sections, next_place}
-use Rattle.link_laws.proofs.Common.{reloc_sections, rounded, IsBelow, IsLinked, linked_sections, section_if, text_sections, AreBytes, is_of}
-use Rattle.link_laws.proofs.Common.{laid, mapped, Image, Section, line_fits, AreFit, ends_of, known_in, data_after, distance_kind}
+-- The bytes of an image that is loaded at a base, and what is decoded there: an instruction of a source that it was linked from.
+use Rattle.link_laws.proofs.Common.{cases_Bool, distance_of}
+use Rattle.link_laws.proofs.Common.{List, Ok, Some, [], ap, arith, cond, false, get_or, length, subst, suc, sym, true, zero, ℕ, ◌%◌, ◌++◌}
+use Rattle.link_laws.proofs.Common.{◌+◌, ◌-◌, ◌/◌, ◌<◌, ◌^◌, ◌∙◌, ◌∷◌, ◌≡◌, ◌≤◌, AllByRecursion, Contains, find, AllPairs, nat_tests}
+use Rattle.link_laws.proofs.Common.{ext_get_or, WellFormed, spelling, Insn, little_endian, window, distance_of, read, pairs_tail, IsBelow}
+use Rattle.link_laws.proofs.Common.{is_of, laid, mapped, Image, option_map_or, get_or-window, length-window, window-append, read_again}
+use Rattle.link_laws.proofs.Common.{moved, moved_byte, laid_inside, Bool, inl, inr, None, Option, append_assoc, if◌then◌else◌}
+use Rattle.link_laws.proofs.Common.{length-append, length-take-le, map, refl, replicate, take, ℤ, ⊎_elim, ◌*◌, to_le_bytes, w64, All, codes}
+use Rattle.link_laws.proofs.Common.{◌==◌, bytes_eq, cases_lt, get_or-append-add, get_or-take, get_or_append_left, length-replicate}
+use Rattle.link_laws.proofs.Common.{length-map, recursion_from_All, same_Some, get_name, is_named, name_number, little_endian-below}
+use Rattle.link_laws.proofs.Common.{get_or-to_le_bytes, signed_at, IsObject, width, Fixup, Object, Symbol, InsnFits, TakesName, Line}
+use Rattle.link_laws.proofs.Common.{file_sections, next_place, reloc_sections, rounded, IsLinked, linked_sections, section_if}
+use Rattle.link_laws.proofs.Common.{text_sections, AreBytes, Section, line_fits, AreFit, ends_of, known_in, data_after, distance_kind}
 use Rattle.link_laws.proofs.Common.{ends_in_data, immediate_size, insn_use, is_distance, section_of, use_of, bytes_of, object_in, fixup_of}
 use Rattle.link_laws.proofs.Common.{fixups_in, from_of, names_with, start, symbol_of, place_of, Laid, laid_objects, Holds, Linked}
 use Rattle.link_laws.proofs.Common.{number_at, LinkPlan, with_immediate, slice_get, All-contains_itself, Contains-append_left}
 use Rattle.link_laws.proofs.Common.{Contains-append_right, get_or_from_slice_get, slice_get_within, slice_get-get_or, found_within, IsLaid}
 use Rattle.link_laws.proofs.Common.{laid-file, LineFits, KnowsUse, IsDecoded, IsNumberBy, IsRead, IsResolved, LinkedLoads, NameStands}
 use Rattle.link_laws.proofs.Common.{line_place}
-use Rattle.link_laws.proofs.{Beside.IsAside, Beside.IsBeside, Beside.KnowsLine, Beside.address_aside, Beside.all_beside}
-use Rattle.link_laws.proofs.{Beside.before_number, Beside.ends_here, Beside.line_byte, Beside.line_fixups, Beside.own_fixup}
-use Rattle.link_laws.proofs.{Beside.laid_inside, LoadedBytes.decoded, LoadedBytes.mapped_free, LoadedBytes.mapped_moved}
-use Rattle.link_laws.proofs.{LoadedBytes.moved_address, Fitted.insn_is_read, Holding.IsFar, Holding.holds_address, Holding.holds_distance}
-use Rattle.link_laws.proofs.{Immediates.TakesNumber, Immediates.takes_number, Lists.all_back, Lists.each_of, Relocs.byte_of}
-use Rattle.link_laws.proofs.{Sources.ends_at, Sources.fixups_append, Sources.section_append}
+use Rattle.link_laws.proofs.{Lists.find_none, Lists.all_back, Lists.each_of, Beside.IsAside, Beside.IsBeside, Beside.KnowsLine}
+use Rattle.link_laws.proofs.{Beside.address_aside, Beside.all_beside, Beside.before_number, Beside.ends_here, Beside.line_byte}
+use Rattle.link_laws.proofs.{Beside.line_fixups, Beside.own_fixup, Fitted.insn_is_read, Numbers.IsFar, Numbers.holds_address}
+use Rattle.link_laws.proofs.{Numbers.holds_distance, Immediates.TakesNumber, Immediates.takes_number, Relocs.byte_of, Sources.ends_at}
+use Rattle.link_laws.proofs.{Sources.fixups_append, Sources.section_append}
 use Rattle.ebc_insn.specs.declared.Insn.TheVariants as insns
 use Rattle.asm_text.specs.Statements as statements
 
--- ---- an instruction with a number in place of a name
+-- ---- bytes of a loaded image
 
--- the sizes of immediates that a name may stand for
-data IsSize : ℕ → Type 0 where
-  size_1 : IsSize 1
-  size_2 : IsSize 2
-  size_4 : IsSize 4
-  size_8 : IsSize 8
+-- a byte that no relocation has stays
+pub mapped_free : (image : Image) (base x : ℕ) → AllByRecursion (λ r. is_of x r ≡ false) image.relocs
+    → mapped image base x ≡ laid image.sections x
+unfolding mapped moved
+mapped_free image base x free =
+    ap (λ o. option_map_or (moved_byte (laid image.sections) (distance_of base image.base) x) o (laid image.sections x))
+    (find_none (is_of x) image.relocs free)
+
+-- the one relocation that has a byte is found
+found_one : (x r : ℕ) (rs : List ℕ) → Contains rs r → AllPairs IsBelow rs → is_of x r ≡ true → find (is_of x) rs ≡ Some r
+found_one x r [] there apart here = absurd (omega arith)
+found_one x r (q ∷ rs) (zero, low, is) apart here =
+    ap (λ b. cond b (Some q) (find (is_of x) rs)) (subst (λ p. is_of x p ≡ true) (sym is) here) ∙ ap Some is
+found_one x r (q ∷ rs) (suc k, low, is) apart here =
+    let far = subst (λ p. q + 8 ≤ p) is (apart 0 (suc k) r (omega arith) low) in
+    let no_ : is_of x q ≡ false = grind (arith, nat_tests) in
+    ap (λ b. cond b (Some q) (find (is_of x) rs)) no_ ∙ found_one x r rs (k, omega (arith, low), is) (pairs_tail q rs apart) here
+
+-- a byte of a relocated number is that of the number at the base
+pub mapped_moved : (image : Image) (base x r : ℕ) → Contains image.relocs r → AllPairs IsBelow image.relocs → is_of x r ≡ true
+    → mapped image base x ≡ (little_endian (laid image.sections) r 8 + distance_of base image.base) % 2 ^ 64 / 256 ^ (x - r) % 256
+unfolding mapped moved
+mapped_moved image base x r there apart here =
+    ap (λ o. option_map_or (moved_byte (laid image.sections) (distance_of base image.base) x) o (laid image.sections x))
+    (found_one x r image.relocs there apart here)
+
+-- ---- a window of a loaded image
+
+-- bytes that a window has are those of a list
+pub window_is : (b : ℕ → ℕ) (a : ℕ) (bytes : List ℕ) → ((k : ℕ) → k < length bytes → b (a + k) ≡ get_or bytes k 0)
+    → window b a (length bytes) ≡ bytes
+window_is b a bytes same =
+    let long = length-window b a (length bytes) in
+    ext_get_or 0 (window b a (length bytes)) bytes long
+    (λ k low. get_or-window b a (length bytes) k 0 (omega (arith, low, long)) ∙ same k (omega (arith, low, long)))
+
+-- what is decoded where an instruction is spelled
+pub decoded : (b : ℕ → ℕ) (p size : ℕ) (j : Insn) → WellFormed j → p + length (spelling j) ≤ size
+    → ((k : ℕ) → k < length (spelling j) → b (p + k) ≡ get_or (spelling j) k 0)
+    → read (window b p (size - p)) ≡ Ok (j, length (spelling j))
+decoded b p size j well within same =
+    let n : ℕ = length (spelling j) in
+    let count : size - p ≡ n + (size - p - n) = omega (arith, within) in
+    let parts = ap (window b p) count ∙ (window-append b p n (size - p - n)
+    ∙ ap (λ bs. bs ++ window b (p + n) (size - p - n)) (window_is b p (spelling j) same)) in
+    ap read parts ∙ read_again j (window b (p + n) (size - p - n)) well
+
+-- ---- an instruction with a number in place of a name
 
 -- What is known of such a size.
 record SizeFits (n : ℕ) : Type 0 where
@@ -39,28 +83,12 @@ record SizeFits (n : ℕ) : Type 0 where
   few : distance_kind n ≤ 4
   wide : width (distance_kind n) ≡ n
 
-fits_size : (n : ℕ) → IsSize n → SizeFits n
-fits_size _ size_1 = record { small = omega arith; power = refl; few = omega arith; wide = refl }
-fits_size _ size_2 = record { small = omega arith; power = refl; few = omega arith; wide = refl }
-fits_size _ size_4 = record { small = omega arith; power = refl; few = omega arith; wide = refl }
-fits_size _ size_8 = record { small = omega arith; power = refl; few = omega arith; wide = refl }
-
-is_size : (i : Insn) → IsSize (immediate_size i)
-is_size (insns.Jump8 c words) = size_1
-is_size (insns.Jump c true relative o e) = size_8
-is_size (insns.Jump c false relative o e) = size_4
-is_size (insns.Call true native relative o e) = size_8
-is_size (insns.Call false native relative o e) = size_4
-is_size (insns.MoveRelative bits o x v) = by (bits == 16) (bits == 32)
-  where
-    by : (a b : Bool) → IsSize (if a then 2 else (if b then 4 else 8))
-    by true b = size_2
-    by false true = size_4
-    by false false = size_8
-is_size i = size_8
-
 size_fits : (i : Insn) → SizeFits (immediate_size i)
-size_fits i = fits_size (immediate_size i) (is_size i)
+size_fits (insns.Jump8 c words) = record { small = omega arith; power = refl; few = omega arith; wide = refl }
+size_fits (insns.Jump c far relative o e) = grind arith
+size_fits (insns.Call far native relative o e) = grind arith
+size_fits (insns.MoveRelative bits o x v) = grind (arith, nat_tests)
+size_fits i = record { small = omega arith; power = refl; few = omega arith; wide = refl }
 
 -- bytes of the front of an instruction, and behind them those of a number, are those of the instruction with the number
 with_number : (i : Insn) (t : TakesNumber i) (b : ℕ → ℕ) (p n : ℕ) → n < 2 ^ (8 * immediate_size i)
@@ -163,7 +191,6 @@ before_line front = section_of false false front
 abbrev behind_line : List Line → Line → List ℕ
 behind_line back line = section_of false (data_after false line.statement) back
 
--- sections that follow each other end behind the place where they begin
 next_from : (place : ℕ) (ss : List Section) → IsLaid place ss → place ≤ next_place ss place
 unfolding next_place
 next_from place [] h = omega arith
@@ -199,7 +226,8 @@ address_bytes : (image : Image) (base place r k : ℕ) → AreBytes image → im
 address_bytes image base place r k bytes small apart there is low =
     let here : is_of (r + k) r ≡ true = grind (arith, nat_tests) in
     let n : ℕ = little_endian (laid image.sections) r 8 in
-    let moved_ = moved_address base image.base place n small is (omega (arith, little_endian-below (laid image.sections) r 8 bytes)) in
+    let low_number = little_endian-below (laid image.sections) r 8 bytes in
+    let moved_ : (n + distance_of base image.base) % 2 ^ 64 ≡ (base + place) % 2 ^ 64 = omega (arith, is, small, low_number) in
     let same : r + k - r ≡ k = omega arith in
     mapped_moved image base (r + k) r there apart here
     ∙ (ap (λ q. q / 256 ^ (r + k - r) % 256) moved_ ∙ ap (λ e. (base + place) % 2 ^ 64 / 256 ^ e % 256) same)
@@ -211,10 +239,8 @@ number_place l front names i name t = let long = front_long i t in omega (arith,
 
 aside_distance : (l : Laid) (p n r size k x : ℕ) (f : Fixup) → IsAside l p n (Some f) x → f.kind ≤ 4 → p ≤ r → r + size ≤ p + n → k < size
     → is_of (r + k) x ≡ false
-aside_distance l p n r size k x f (inl (inl before)) four from to low = grind (arith, nat_tests)
-aside_distance l p n r size k x f (inl (inr behind)) four from to low = grind (arith, nat_tests)
-aside_distance l p n r size k x f (inr own) four from to low =
-    let kind : f.kind ≡ 5 = ap (λ (g : Fixup). g.kind) (same_Some f own.0 own.1) ∙ own.2 in absurd (omega (arith, kind, four))
+aside_distance l p n r size k x f (inl beside) four from to low = grind (arith, nat_tests)
+aside_distance l p n r size k x f (inr own) four from to low = absurd (grind (arith, own.1, own.2))
 
 module _ (objects : List Object) (plan : LinkPlan) (image : Image) (l : Laid) (front back : List Line) (line : Line) (i : Insn) where
   -- where it begins in the code of its object and in the image, how long it is, and the names of its source
@@ -390,15 +416,13 @@ module _ (objects : List Object) (plan : LinkPlan) (image : Image) (l : Laid) (f
 
   -- ---- together
 
-  named_loads : (base : ℕ) (name : List ℕ) → IsNamedLine name → TakesNumber i → TakesName i → (far : Bool) → is_distance i ≡ far
-      → IsLoaded base (Some name)
-  named_loads base name nl t takes true far = distance_loads base name nl t far
-  named_loads base name nl t takes false near = address_loads base name nl t takes near
-
   line_loads : (base : ℕ) (name : Option (List ℕ)) → IsLine name → InsnFits (i, name) → IsLoaded base name
   line_loads base None s fits = (i, refl, plain_loads base s fits.0)
-  line_loads base (Some name) s fits = named_loads base name (named_line name s) (takes_number i fits.0 fits.1.0) fits.1.0 (is_distance i)
-      refl
+  line_loads base (Some name) s fits =
+      let nl = named_line name s in
+      let takes = fits.1.0 in
+      let t = takes_number i fits.0 takes in
+      ⊎_elim (distance_loads base name nl t) (address_loads base name nl t takes) (cases_Bool (is_distance i))
 
 pub linked_loads : LinkedLoads
 linked_loads objects plan image base l front back line i name linked bytes all there is read_ statement code =

@@ -1,14 +1,90 @@
--- Linked images of the same objects are one.
-use Rattle.link_laws.proofs.Common.{◌≡◌, ℕ, ◌+◌, ◌-◌, ◌<◌, ◌≤◌, slice_index, List, [], ◌∷◌, length, refl, ap, sym, subst, ◌∙◌, arith, ◌↔◌}
-use Rattle.link_laws.proofs.Common.{AllPairs, Contains, ext_get_or, All-contains, file_sections, next_place, reloc_section, reloc_sections}
-use Rattle.link_laws.proofs.Common.{rounded, IsBelow, linked_sections, laid, Image, Section, Object, first_of_all, further, head_or_later}
-use Rattle.link_laws.proofs.Common.{nowhere, LinkPlan, Linked, ◌⊎◌, inl, inr, Some, None, true, false, ⊎_elim, or_cases, cases_Bool}
-use Rattle.link_laws.proofs.Common.{list_any, cases_lt, nat_tests, width, Fixup, AreBytes, place_of, Laid, laid_objects, place_in, Holds}
-use Rattle.link_laws.proofs.Common.{StandsAt, fills, number_at, definitions, first_again, names_of, Contains-tail, pairs_head, IsFilled}
-use Rattle.link_laws.proofs.Common.{IsOutside, own_bytes, LinkedIsOne}
-use Rattle.ebc_disasm.proofs.Firsts.{pairs_tail}
-use Rattle.link_laws.proofs.{Listings.data_place, Relocs.Within, Relocs.laid_code, Relocs.laid_data, Once.one_entry, Once.one_stand}
+-- Linked images of the same objects are one. Where no name is defined twice, a symbol stands at one place.
+use Rattle.link_laws.proofs.Common.{zero, suc, arith, ◌≡◌, ℕ, List, [], ◌∷◌, ◌++◌, Option, Some, None, Bool, true, false, cond, refl, ap}
+use Rattle.link_laws.proofs.Common.{sym, subst, ◌∙◌, bytes_eq, Contains, ◌||◌, is_named, Symbol, head_or_later, nowhere, Laid, place_in}
+use Rattle.link_laws.proofs.Common.{StandsAt, Definition, definition_in, definitions, first_again, is_definition, names_of, or_right}
+use Rattle.link_laws.proofs.Common.{bytes_eq-Decides, joined, kept, IsEntry, own, other, definitions_of, nat_le, nat_lt, ◌&&◌}
+use Rattle.link_laws.proofs.Common.{All-from_recursion, Any, Any-from_list_any, ◌+◌, ◌-◌, ◌<◌, ◌≤◌, slice_index, length, ◌↔◌, AllPairs}
+use Rattle.link_laws.proofs.Common.{ext_get_or, All-contains, file_sections, next_place, reloc_section, reloc_sections, rounded, IsBelow}
+use Rattle.link_laws.proofs.Common.{linked_sections, laid, Image, Section, Object, first_of_all, further, LinkPlan, Linked, ◌⊎◌, inl, inr}
+use Rattle.link_laws.proofs.Common.{⊎_elim, or_cases, cases_Bool, list_any, cases_lt, nat_tests, width, Fixup, AreBytes, place_of}
+use Rattle.link_laws.proofs.Common.{laid_objects, Holds, fills, number_at, Contains-tail, pairs_head, IsFilled, IsOutside, own_bytes}
+use Rattle.link_laws.proofs.Common.{LinkedIsOne}
+use Rattle.std.specs.Prelude.{filter}
+use Rattle.ebc_link.proofs.ThereLaws.{mapped}
+use Rattle.link_laws.proofs.{Lists.none_front, Lists.fails_of, Listings.data_place, Relocs.Within, Relocs.laid_code, Relocs.laid_data}
 use Rattle.link_laws.proofs.{Numbers.same_byte, Numbers.same_number}
+use Rattle.ebc_link.specs.Layout.{start_of}
+use Rattle.ebc_disasm.proofs.Firsts.{pairs_tail}
+
+-- ---- definitions
+
+new_names : (ds : List Definition) (before : List (List ℕ)) (e : Definition) → first_again before (names_of ds) ≡ None → Contains ds e
+    → is_named e.name before ≡ false
+unfolding first_again
+new_names [] before e none there = nowhere _ e there
+new_names (d ∷ ds) before e none (zero, within, is) = grind arith
+new_names (d ∷ ds) before e none (suc k, within, is) =
+    none_front (bytes_eq e.name) before (d.name ∷ [])
+    (new_names ds (before ++ d.name ∷ []) e (grind arith) (k, omega (arith, within), is))
+
+-- a name is not among names that end with it
+own_name : (n : List ℕ) (before : List (List ℕ)) → is_named n (before ++ n ∷ []) ≡ true
+own_name n [] = ap (λ b. b || false) ((bytes_eq-Decides n n).1 refl)
+own_name n (m ∷ ms) = or_right (bytes_eq n m) _ (own_name n ms)
+
+not_later : (d : Definition) (ds : List Definition) (before : List (List ℕ)) (e : Definition)
+    → first_again (before ++ d.name ∷ []) (names_of ds) ≡ None → Contains ds e → d.name ≡ e.name → (P : Type 0) → P
+not_later d ds before e none there same P =
+    let new : is_named e.name (before ++ d.name ∷ []) ≡ false = new_names ds (before ++ d.name ∷ []) e none there in
+    let old = subst (λ n. is_named n (before ++ d.name ∷ []) ≡ true) same (own_name d.name before) in
+    absurd cc
+
+pub one_definition : (ds : List Definition) (before : List (List ℕ)) (d e : Definition) → first_again before (names_of ds) ≡ None
+    → Contains ds d → Contains ds e → d.name ≡ e.name → d ≡ e
+unfolding first_again
+one_definition [] before d e none first second same = nowhere _ d first
+one_definition (x ∷ ds) before d e none first second same =
+    let behind : first_again (before ++ x.name ∷ []) (names_of ds) ≡ None = grind arith in
+    head_or_later (d ≡ e) x ds d first
+    (λ is. head_or_later (d ≡ e) x ds e second (λ also. sym is ∙ also)
+    (λ later. not_later x ds before e behind later (ap (λ (y : Definition). y.name) is ∙ same) (d ≡ e)))
+    (λ there. head_or_later (d ≡ e) x ds e second
+    (λ also. not_later x ds before d behind there (ap (λ (y : Definition). y.name) also ∙ sym same) (d ≡ e))
+    (λ later. one_definition ds (before ++ x.name ∷ []) d e behind there later same))
+
+-- what a symbol defines is among the definitions
+is_defined : (ls : List Laid) (l : Laid) (s : Symbol) → Contains ls l → Contains l.object.symbols s → is_definition s ≡ true
+    → Contains (definitions ls) (definition_in l.home s)
+unfolding definitions
+is_defined ls l s there has defines =
+    joined definitions_of ls l (definition_in l.home s) there
+    (mapped (definition_in l.home) (filter is_definition l.object.symbols) s (kept is_definition l.object.symbols s has defines))
+
+-- two definitions of one name stand at one place
+pub one_place : (ls : List Laid) (l m : Laid) (s t : Symbol) → first_again [] (names_of (definitions ls)) ≡ None → Contains ls l
+    → Contains l.object.symbols s → is_definition s ≡ true → Contains ls m → Contains m.object.symbols t → is_definition t ≡ true
+    → s.name ≡ t.name → place_in l.home s.kind s.offset ≡ place_in m.home t.kind t.offset
+one_place ls l m s t none first has_s defines_s second has_t defines_t same =
+    ap (λ (d : Definition). d.place)
+    (one_definition (definitions ls) [] (definition_in l.home s) (definition_in m.home t) none
+    (is_defined ls l s first has_s defines_s) (is_defined ls m t second has_t defines_t) same)
+
+-- a symbol stands at one place
+pub one_stand : (ls : List Laid) (l : Laid) (s : Symbol) (p q : ℕ) → first_again [] (names_of (definitions ls)) ≡ None
+    → StandsAt ls l s p → StandsAt ls l s q → p ≡ q
+one_stand ls l s p q none (own known is) (own known2 also) = is ∙ sym also
+one_stand ls l s p q none (own known is) (other unknown m t there has defines named also) = absurd (known unknown)
+one_stand ls l s p q none (other unknown m t there has defines named is) (own known also) = absurd (known unknown)
+one_stand ls l s p q none (other unknown m t there has defines named is) (other unknown2 n u there2 has2 defines2 named2 also) =
+    is ∙ (one_place ls m n t u none there has defines there2 has2 defines2 (named ∙ sym named2) ∙ sym also)
+
+-- and an image is entered at one
+pub one_entry : (ls : List Laid) (name : List ℕ) (x y : ℕ) → first_again [] (names_of (definitions ls)) ≡ None → IsEntry ls name x
+    → IsEntry ls name y → x ≡ y
+one_entry ls name x y none (l, s, there, has, defines, named, code, even, within, is)
+    (m, t, there2, has2, defines2, named2, code2, even2, within2, also) =
+    let place = one_place ls l m s t none there has defines there2 has2 defines2 (named ∙ sym named2) in
+    is ∙ (ap (λ k. place_in l.home k s.offset) (sym code) ∙ (place ∙ (ap (λ k. place_in m.home k t.offset) code2 ∙ sym also)))
 
 -- ---- what `Linked` says of an image fixes it: images of which the same bytes, relocations and numbers are known are one
 
@@ -71,14 +147,6 @@ one_contents text contents text2 contents2 front long same =
 
 -- ---- sections, and images
 
-one_sections_of : (text contents text2 contents2 : List ℕ) (ss ts : List Section) → ss ≡ linked_sections text contents
-    → ts ≡ linked_sections text2 contents2 → length text ≡ length text2 → length contents ≡ length contents2
-    → ((x : ℕ) → laid ss x ≡ laid ts x) → ss ≡ ts
-one_sections_of text contents text2 contents2 ss ts one two front behind same =
-    let bytes : (x : ℕ) → laid (linked_sections text contents) x ≡ laid (linked_sections text2 contents2) x =
-    λ x. ap (λ us. laid us x) (sym one) ∙ (same x ∙ ap (λ us. laid us x) two) in
-    rw (one, two, one_text text contents text2 contents2 front bytes, one_contents text contents text2 contents2 front behind bytes) refl
-
 pub one_sections : (objects : List Object) (plan : LinkPlan) (one two : Image) → Linked objects plan one → Linked objects plan two
     → ((x : ℕ) → laid one.sections x ≡ laid two.sections x) → one.sections ≡ two.sections
 one_sections objects plan one two first second same =
@@ -86,100 +154,27 @@ one_sections objects plan one two first second same =
     let (text2, contents2, is2) = second.layout.sections in
     let ends = first.ends text contents is in
     let ends2 = second.ends text2 contents2 is2 in
-    one_sections_of text contents text2 contents2 one.sections two.sections is is2 (omega (arith, ends.0, ends2.0))
-    (omega (arith, ends.1, ends2.1)) same
-
--- an image by its parts
-abbrev made : (base entry size subsystem : ℕ) → List Section → List ℕ → Image
-made base entry size subsystem sections relocs = record {
-  base = base;
-  entry = entry;
-  size = size;
-  subsystem = subsystem;
-  sections = sections;
-  relocs = relocs;
-}
+    let front : length text ≡ length text2 = omega (arith, ends.0, ends2.0) in
+    let behind : length contents ≡ length contents2 = omega (arith, ends.1, ends2.1) in
+    let bytes : (x : ℕ) → laid (linked_sections text contents) x ≡ laid (linked_sections text2 contents2) x =
+    λ x. ap (λ us. laid us x) (sym is) ∙ (same x ∙ ap (λ us. laid us x) is2) in
+    rw (is, is2, one_text text contents text2 contents2 front bytes, one_contents text contents text2 contents2 front behind bytes) refl
 
 one_size : (one two : Image) → one.sections ≡ two.sections → one.relocs ≡ two.relocs
     → next_place (file_sections one) 0x1000 ≡ next_place (file_sections two) 0x1000
 unfolding file_sections reloc_sections reloc_section
-one_size one two sections relocs =
-    ap (λ ss. next_place (file_sections (made 0 0 0 0 ss one.relocs)) 0x1000) sections
-    ∙ ap (λ rs. next_place (file_sections (made 0 0 0 0 two.sections rs)) 0x1000) relocs
+one_size one two sections relocs = rw (sections, relocs) refl
 
 -- images with the same parts are one
 pub one_image : (one two : Image) → one.base ≡ two.base → one.entry ≡ two.entry → one.size ≡ two.size → one.subsystem ≡ two.subsystem
     → one.sections ≡ two.sections → one.relocs ≡ two.relocs → one ≡ two
-one_image one two base entry size subsystem sections relocs = same
-  where
-    same : made one.base one.entry one.size one.subsystem one.sections one.relocs ≡ two
-    same = rw (base, entry, size, subsystem, sections, relocs) refl
-
-pub size_is : (one two : Image) → one.size ≡ next_place (file_sections one) 0x1000 → two.size ≡ next_place (file_sections two) 0x1000
-    → one.sections ≡ two.sections → one.relocs ≡ two.relocs → one.size ≡ two.size
-size_is one two first second sections relocs = first ∙ (one_size one two sections relocs ∙ sym second)
-
--- ---- where a place lies
-
--- A place is that of a byte of an object.
-pub record IsOf (ls : List Laid) (x : ℕ) : Type 0 where
-  pub it : Laid
-  pub there : Contains ls it
-  pub section : ℕ
-  pub known : (section ≡ 1) ⊎ (section ≡ 2)
-  pub offset : ℕ
-  pub within : offset < length (own_bytes it section)
-  pub place : x ≡ place_in it.home section offset
-
-pub data Lies (ls : List Laid) (x : ℕ) : Type 0 where
-  of_one : IsOf ls x → Lies ls x
-  of_none : ((l : Laid) → Contains ls l → IsOutside x l) → Lies ls x
-
-byte_of : (ls : List Laid) (l : Laid) (x section n : ℕ) → Contains ls l → (section ≡ 1) ⊎ (section ≡ 2) → n < length (own_bytes l section)
-    → x ≡ place_in l.home section n → IsOf ls x
-byte_of ls l x section n there known within place =
-    record { it = l; there = there; section = section; known = known; offset = n; within = within; place = place }
-
--- a place lies in some bytes, or beside them
-pub data Beside (x n place : ℕ) : Type 0 where
-  in_them : x ≤ place → place < x + n → Beside x n place
-  out_of_them : (place < x) ⊎ (x + n ≤ place) → Beside x n place
-
-beside : (x n place : ℕ) → Beside x n place
-beside x n place = ⊎_elim (λ low. out_of_them (inl low))
-    (λ high. ⊎_elim (λ inside. in_them high inside) (λ past. out_of_them (inr past)) (cases_lt place (x + n))) (cases_lt place x)
-
-next_lies : (ls : List Laid) (l : Laid) (x : ℕ) → Beside l.home.code (length l.object.code) x
-    → Beside l.home.contents (length l.object.contents) x → Lies ls x → Lies (l ∷ ls) x
-next_lies ls l x (in_them low high) data_ rest =
-    of_one (byte_of (l ∷ ls) l x 1 (x - l.home.code) (first_of_all ls l) (inl refl) (omega arith) (omega arith))
-next_lies ls l x (out_of_them code) (in_them low high) rest =
-    of_one (byte_of (l ∷ ls) l x 2 (x - l.home.contents) (first_of_all ls l) (inr refl) (omega arith) (omega arith))
-next_lies ls l x (out_of_them code) (out_of_them contents) (of_one o) =
-    of_one (byte_of (l ∷ ls) o.it x o.section o.offset (further l ls o.it o.there) o.known o.within o.place)
-next_lies ls l x (out_of_them code) (out_of_them contents) (of_none all) =
-    of_none (λ m there. head_or_later (IsOutside x m) l ls m there (λ is. subst (IsOutside x) is (code, contents)) (all m))
-
-lies : (ls : List Laid) (x : ℕ) → Lies ls x
-lies [] x = of_none (λ l there. nowhere (IsOutside x l) l there)
-lies (l ∷ ls) x = next_lies ls l x (beside l.home.code (length l.object.code) x) (beside l.home.contents (length l.object.contents) x)
-    (lies ls x)
+one_image one two base entry size subsystem sections relocs = grind arith
 
 -- ---- bytes
 
--- A fixup that fills in a byte.
-pub record Filler (fs : List Fixup) (section i : ℕ) : Type 0 where
-  pub fixup : Fixup
-  pub has : Contains fs fixup
-  pub fills_it : fills section i fixup ≡ true
-
-filler : (fs : List Fixup) (section i : ℕ) → list_any (fills section i) fs ≡ true → Filler fs section i
-filler [] section i e = absurd cc
-filler (f ∷ fs) section i e =
-    ⊎_elim (λ is. record { fixup = f; has = first_of_all fs f; fills_it = is })
-    (λ later. let rest = filler fs section i later in
-    record { fixup = rest.fixup; has = further f fs rest.fixup rest.has; fills_it = rest.fills_it })
-    (or_cases (fills section i f) _ e)
+-- whether a byte of a section of an object is at a place
+abbrev has_byte : ℕ → ℕ → Laid → Bool
+has_byte section x l = nat_le (start_of l.home section) x && nat_lt x (start_of l.home section + length (own_bytes l section))
 
 -- what is known of two linked images
 pub record AreLinked (objects : List Object) (plan : LinkPlan) (one two : Image) : Type 0 where
@@ -206,19 +201,19 @@ module _ (objects : List Object) (plan : LinkPlan) (one two : Image) (a : AreLin
   abbrev SameAt : ℕ → Type 0
   SameAt x = laid one.sections x ≡ laid two.sections x
 
-  filled_byte : (l : Laid) (section i : ℕ) → Contains ls l → Filler l.object.fixups section i → SameAt (place_in l.home section i)
-  filled_byte l section i there f =
-      let same = filled_number plan.base ls one two l f.fixup a.once a.first_bytes a.second_bytes
-      (a.first.fixups l f.fixup there f.has) (a.second.fixups l f.fixup there f.has) in
-      let fill : fills section i f.fixup ≡ true = f.fills_it in
-      let is : f.fixup.section ≡ section = grind (arith, nat_tests) in
-      let low : f.fixup.offset ≤ i = grind (arith, nat_tests) in
-      let high : i < f.fixup.offset + width f.fixup.kind = grind (arith, nat_tests) in
-      let place : place_of l.home f.fixup + (i - f.fixup.offset) ≡ place_in l.home section i =
-      ap (λ k. place_in l.home k f.fixup.offset + (i - f.fixup.offset)) is ∙ omega arith in
+  filled_byte : (l : Laid) (section i : ℕ) → Contains ls l → Any (λ f. fills section i f ≡ true) l.object.fixups
+      → SameAt (place_in l.home section i)
+  filled_byte l section i there (k, f, within, at, fill) =
+      let has : Contains l.object.fixups f = (k, within, at) in
+      let same = filled_number plan.base ls one two l f a.once a.first_bytes a.second_bytes (a.first.fixups l f there has)
+      (a.second.fixups l f there has) in
+      let is : f.section ≡ section = grind (arith, nat_tests) in
+      let low : f.offset ≤ i = grind (arith, nat_tests) in
+      let high : i < f.offset + width f.kind = grind (arith, nat_tests) in
+      let place : place_of l.home f + (i - f.offset) ≡ place_in l.home section i =
+      ap (λ k. place_in l.home k f.offset + (i - f.offset)) is ∙ omega arith in
       subst SameAt place
-      (same_byte one two (place_of l.home f.fixup) (width f.fixup.kind) (i - f.fixup.offset) a.first_bytes a.second_bytes
-      (omega arith) same)
+      (same_byte one two (place_of l.home f) (width f.kind) (i - f.offset) a.first_bytes a.second_bytes (omega arith) same)
 
   own_byte : (l : Laid) (section i : ℕ) → Contains ls l → (section ≡ 1) ⊎ (section ≡ 2) → i < length (own_bytes l section)
       → list_any (fills section i) l.object.fixups ≡ false → SameAt (place_in l.home section i)
@@ -228,21 +223,39 @@ module _ (objects : List Object) (plan : LinkPlan) (one two : Image) (a : AreLin
       (λ code. subst P (sym code) (λ w n. a.first.code l there i w n ∙ sym (a.second.code l there i w n)))
       (λ contents. subst P (sym contents) (λ w n. a.first.contents l there i w n ∙ sym (a.second.contents l there i w n))) known
 
-  one_byte : (x : ℕ) → Lies ls x → SameAt x
-  one_byte x (of_one o) =
-      subst SameAt (sym o.place)
-      (⊎_elim (λ e. filled_byte o.it o.section o.offset o.there (filler o.it.object.fixups o.section o.offset e))
-      (λ e. own_byte o.it o.section o.offset o.there o.known o.within e)
-      (cases_Bool (list_any (fills o.section o.offset) o.it.object.fixups)))
-  one_byte x (of_none all) = a.first.between x all ∙ sym (a.second.between x all)
+  -- the byte of an object
+  object_byte : (l : Laid) (section x : ℕ) → Contains ls l → (section ≡ 1) ⊎ (section ≡ 2) → has_byte section x l ≡ true → SameAt x
+  object_byte l section x there known has =
+      let i : ℕ = x - start_of l.home section in
+      let within : i < length (own_bytes l section) = grind (arith, nat_tests) in
+      let place : place_in l.home section i ≡ x = grind (arith, nat_tests) in
+      subst SameAt place
+      (⊎_elim (λ e. filled_byte l section i there (Any-from_list_any (fills section i) l.object.fixups e))
+      (λ e. own_byte l section i there known within e) (cases_Bool (list_any (fills section i) l.object.fixups)))
+
+  one_byte : (x : ℕ) → SameAt x
+  one_byte x =
+      let has : Laid → Bool = λ l. has_byte 1 x l || has_byte 2 x l in
+      ⊎_elim
+      (λ some.
+      let (k, l, within, at, e) = Any-from_list_any has ls some in
+      let there : Contains ls l = (k, within, at) in
+      ⊎_elim (object_byte l 1 x there (inl refl)) (object_byte l 2 x there (inr refl)) (or_cases (has_byte 1 x l) (has_byte 2 x l) e))
+      (λ none.
+      let none_has = All-from_recursion (λ l. has l ≡ false) ls (fails_of has ls none) in
+      let outside : (l : Laid) → Contains ls l → IsOutside x l = λ l there.
+      let out : has l ≡ false = All-contains (λ m. has m ≡ false) ls l none_has there in
+      (grind (arith, nat_tests), grind (arith, nat_tests)) in
+      a.first.between x outside ∙ sym (a.second.between x outside))
+      (cases_Bool (list_any has ls))
 
   images_are_one : one ≡ two
   images_are_one =
-      let sections : one.sections ≡ two.sections = one_sections objects plan one two a.first a.second (λ x. one_byte x (lies ls x)) in
+      let sections : one.sections ≡ two.sections = one_sections objects plan one two a.first a.second one_byte in
       let relocs = one_ascending one.relocs two.relocs a.first.layout.apart a.second.layout.apart
       (λ x. (λ there. (a.second.relocs x).1 ((a.first.relocs x).0 there), λ there. (a.first.relocs x).1 ((a.second.relocs x).0 there))) in
       one_image one two (a.first.base ∙ sym a.second.base) (one_entry ls plan.entry one.entry two.entry a.once a.first.entry a.second.entry)
-      (size_is one two a.first.layout.size a.second.layout.size sections relocs) (a.first.subsystem ∙ sym a.second.subsystem)
+      (a.first.layout.size ∙ (one_size one two sections relocs ∙ sym a.second.layout.size)) (a.first.subsystem ∙ sym a.second.subsystem)
       sections relocs
 
 -- the law

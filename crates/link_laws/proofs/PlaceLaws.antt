@@ -3,17 +3,14 @@ use Rattle.link_laws.proofs.Common.{◌≡◌, ℕ, ◌+◌, ◌<◌, ◌≤◌,
 use Rattle.link_laws.proofs.Common.{ap, subst, ◌∙◌, arith, ⊎_elim, AllByRecursion, length-append, append_assoc, nat_eq, list_any}
 use Rattle.link_laws.proofs.Common.{flat_map-append, cases_lt, nat_tests, IsBytes, Listed, Image, is_cut, is_inside, label_before}
 use Rattle.link_laws.proofs.Common.{label_lines, labels, lines_from, with_label}
-use Rattle.link_laws.proofs.{Lists.all_at, Lists.all_of, Lists.fails_of, Lists.none_append, Lists.none_passes, ItemLaws.IsItem}
-use Rattle.link_laws.proofs.{ItemLaws.byte_here, ItemLaws.insn_here, ItemLaws.labels_by, ItemLaws.line_bytes, ItemLaws.place_here}
-use Rattle.link_laws.proofs.{ItemLaws.word_here, SectionLaws.bytes_of_lines, SectionLaws.one_item, Walks.IsStep, Walks.walk}
+use Rattle.link_laws.proofs.Lists.{all_at, all_of, fails_of, none_append, none_passes}
+use Rattle.link_laws.proofs.ItemLaws.{IsItem, byte_here, insn_here, labels_by, line_bytes, place_here, word_here}
+use Rattle.link_laws.proofs.SectionLaws.{bytes_of_lines, one_item, IsStep, walk}
 use Rattle.asm_text.specs.declared.listing.Listed.TheVariants as listed
 
 -- No label is among the last seven of the eight bytes of a relocation.
 abbrev pub AreUncut : Image → Type 0
 AreUncut image = AllByRecursion (λ r. is_cut image r 8 ≡ false) image.relocs
-
-none_inside : (ps : List ℕ) (x : ℕ) → list_any (is_inside x 1) ps ≡ false
-none_inside ps x = none_passes (is_inside x 1) ps (all_of (λ p. is_inside x 1 p ≡ false) ps (λ p. grind (arith, nat_tests)))
 
 uncut_by : (image : Image) (code : Bool) (x : ℕ) (bytes : List ℕ) (it : Listed × ℕ) → IsItem image code x bytes it → AreUncut image
     → is_cut image x it.1 ≡ false
@@ -21,7 +18,8 @@ unfolding is_cut
 uncut_by image code x _ _ (place_here bytes target long here is) all = all_at (λ r. is_cut image r 8 ≡ false) image.relocs x all here
 uncut_by image code x _ _ (insn_here bytes i n in_code is cut whole) all = cut
 uncut_by image code x _ _ (word_here b c rest cut free) all = cut
-uncut_by image code x _ _ (byte_here b rest none) all = none_inside (labels image) x
+uncut_by image code x _ _ (byte_here b rest none) all =
+    none_passes (is_inside x 1) (labels image) (all_of (λ p. is_inside x 1 p ≡ false) (labels image) (λ p. grind (arith, nat_tests)))
 
 -- a label that lies past the place of what is listed lies behind it
 pub behind_item : (image : Image) (code : Bool) (x y n : ℕ) (bytes : List ℕ) (l : Listed) → IsItem image code x bytes (l, n)
@@ -61,11 +59,7 @@ no_label image x y past =
 -- what is listed at a place is no label
 pub not_item : (image : Image) (code : Bool) (x y : ℕ) (bytes : List ℕ) (it : Listed × ℕ) → IsItem image code x bytes it
     → is_label_of y it.0 ≡ false
-not_item image code x y _ _ (insn_here bytes i n in_code is cut whole) = either (label_before image (x + n))
-  where
-    either : (o : Option ℕ) → is_label_of y (with_label i o) ≡ false
-    either None = refl
-    either (Some target) = refl
+not_item image code x y _ _ (insn_here bytes i n in_code is cut whole) = grind arith
 not_item image code x y _ _ c = refl
 
 -- more lines in front, of places before the label's

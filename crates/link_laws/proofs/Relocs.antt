@@ -1,13 +1,13 @@
 -- The sections, the relocated numbers and the relocations of an image in the linker's layout.
-use Rattle.link_laws.proofs.Common.{◌≡◌, ◌⊎◌, inl, inr, ⊎_elim, ℕ, zero, suc, ◌+◌, ◌-◌, ◌*◌, ◌/◌, ◌%◌, ◌^◌, ◌<◌, ◌≤◌, List, [], ◌∷◌, ◌++◌}
-use Rattle.link_laws.proofs.Common.{length, take, drop, Option, Some, None, true, false, refl, sym, ap, subst, ◌∙◌, arith, length-drop}
-use Rattle.link_laws.proofs.Common.{length-take-le, All, AllPairs, codes, nat_eq, slice_index, w64, to_le_bytes, AllByRecursion}
-use Rattle.link_laws.proofs.Common.{cons_option, filter, filter_map, list_any, or_cases, eqb-true, cases_lt, nat_tests, ext_get_or}
+use Rattle.link_laws.proofs.Common.{get_or_past, cases_lt, ◌≡◌, ◌⊎◌, inl, inr, ⊎_elim, ℕ, zero, suc, ◌+◌, ◌-◌, ◌*◌, ◌/◌, ◌%◌, ◌^◌, ◌<◌, ◌≤◌}
+use Rattle.link_laws.proofs.Common.{List, [], ◌∷◌, ◌++◌, length, take, drop, Option, Some, None, true, false, refl, sym, ap, subst, ◌∙◌}
+use Rattle.link_laws.proofs.Common.{arith, length-drop, length-take-le, All, AllPairs, codes, nat_eq, slice_index, w64, to_le_bytes}
+use Rattle.link_laws.proofs.Common.{AllByRecursion, cons_option, filter, filter_map, list_any, or_cases, eqb-true, nat_tests, ext_get_or}
 use Rattle.link_laws.proofs.Common.{get_or-drop, get_or-take, All-from_recursion, recursion_from_All, all_append, little_endian}
 use Rattle.link_laws.proofs.Common.{distance_of, get_or-to_le_bytes, IsBytes, Image, Section, file_sections, next_place, reloc_section}
 use Rattle.link_laws.proofs.Common.{reloc_sections, IsBelow, linked_sections, section_if, laid, named_place, pairs_tail, in_section, labels}
-use Rattle.link_laws.proofs.Common.{named, Any, div-div-eq-div-mul, pow-suc, get_or_past, overlaid, little_endian-zeros, overlaid-apart}
-use Rattle.link_laws.proofs.Common.{overlaid-within, laid_linked, one_unless, Has, has_place}
+use Rattle.link_laws.proofs.Common.{named, Any, div-div-eq-div-mul, pow-suc, overlaid, little_endian-zeros, overlaid-apart, overlaid-within}
+use Rattle.link_laws.proofs.Common.{laid_linked, one_unless, Has, has_place}
 use Rattle.pe_image.proofs.Pages.{pairs_head}
 use Rattle.link_laws.proofs.{FixupWalk.AreNamed, FixupWalk.AreWhole, FixupWalk.Ascend, FixupWalk.in_range, Bodies.AreLow, Bodies.IsLabelled}
 use Rattle.link_laws.proofs.{Bodies.named_inside, Listings.data_place, Lists.all_at, Lists.each_of, Lists.each_of_both, Lists.keep_all}
@@ -74,12 +74,7 @@ laid_behind text contents y far =
 -- code and data are bytes where the image is of bytes
 bytes_by : (f : ℕ → ℕ) (place : ℕ) (bytes : List ℕ) → ((x : ℕ) → f x < 256)
     → ((y : ℕ) → Within place (length bytes) y → f y ≡ slice_index bytes (y - place)) → IsBytes bytes
-bytes_by f place bytes each is i = ⊎_elim
-    (λ low.
-    let same : place + i - place ≡ i = omega arith in
-    subst (λ n. n < 256) (is (place + i) (omega arith, omega (arith, low)) ∙ ap (slice_index bytes) same) (each (place + i)))
-    (λ high. subst (λ n. n < 256) (sym (get_or_past bytes i 0 high)) (omega arith))
-    (cases_lt i (length bytes))
+bytes_by f place bytes each is i = grind (arith, each (place + i), is (place + i), get_or_past, cases_lt)
 
 pub code_bytes : (text contents : List ℕ) → ((y : ℕ) → laid (linked_sections text contents) y < 256) → IsBytes text
 code_bytes text contents each = bytes_by (laid (linked_sections text contents)) 0x1000 text each (laid_code text contents)
@@ -128,15 +123,9 @@ sections_are image b bs contents is =
 abbrev Lies : ℕ → ℕ → ℕ → ℕ → Type 0
 Lies n place m r = ((0x1000 ≤ r) × (r + 8 ≤ 0x1000 + n)) ⊎ (((place ≤ r) × (r + 8 ≤ place + m)) ⊎ (place + m ≤ r))
 
-has_lies : (n place m r : ℕ) (s : Section) → Is n place m s → Has r 8 s → Lies n place m r
-has_lies n place m r s (inl a) has = inl (omega arith, omega arith)
-has_lies n place m r s (inr (inl a)) has = inr (inl (omega arith, omega arith))
-has_lies n place m r s (inr (inr far)) has = inr (inr (omega arith))
-
 any_lies : (n place m r : ℕ) (ss : List Section) → AllByRecursion (Is n place m) ss → Any (Has r 8) ss → Lies n place m r
-any_lies n place m r ss all there =
-    let s : Section = there.1 in
-    has_lies n place m r s (subst (Is n place m) there.3 (All-from_recursion (Is n place m) ss all there.0 s there.2)) there.4
+any_lies n place m r ss all (k, s, within, at, has) =
+    let is : Is n place m s = subst (Is n place m) at (All-from_recursion (Is n place m) ss all k s within) in grind arith
 
 -- ---- the number at a relocation
 
@@ -172,11 +161,6 @@ number_bytes bytes at each within =
 abbrev pub IsHome : ℕ → ℕ → ℕ → ℕ → Type 0
 IsHome n place m r = ((0x1000 ≤ r) × (r + 8 ≤ 0x1000 + n)) ⊎ ((place ≤ r) × (r + 8 ≤ place + m))
 
-nowhere_far : (base n place m t : ℕ) → base < 2 ^ 32 → n ≤ 2 ^ 20 → m ≤ 2 ^ 20 → place ≤ 2 ^ 22 → t ≡ distance_of 0 base
-    → Within 0x1000 n t ⊎ Within place m t → 0x1000 ≤ place → ⊥
-nowhere_far base n place m t small few less low is (inl w) above = omega arith
-nowhere_far base n place m t small few less low is (inr w) above = omega arith
-
 module _ (image : Image) (b : ℕ) (bs contents : List ℕ) (is : image.sections ≡ linked_sections (b ∷ bs) contents) where
   abbrev place : ℕ
   place = data_place (b ∷ bs)
@@ -199,9 +183,7 @@ module _ (image : Image) (b : ℕ) (bs contents : List ℕ) (is : image.sections
     home_of_reloc : (r : ℕ) → in_section image (named_place image r) ≡ true → Lies (length (b ∷ bs)) place (length contents) r → HomeHere r
     home_of_reloc r there (inl a) = inl a
     home_of_reloc r there (inr (inl a)) = inr a
-    home_of_reloc r there (inr (inr far)) =
-        absurd (nowhere_far image.base (length (b ∷ bs)) place (length contents) (named_place image r) small few less (omega arith)
-        (no_number r far) (section_inside (named_place image r) there) (omega arith))
+    home_of_reloc r there (inr (inr far)) = absurd (grind (arith, no_number r far, section_inside (named_place image r) there))
 
     pub homes : All (λ r. in_section image (named_place image r) ≡ true) image.relocs
         → All (λ r. Any (Has r 8) (file_sections image)) image.relocs → AllByRecursion HomeHere image.relocs
@@ -213,41 +195,32 @@ module _ (image : Image) (b : ℕ) (bs contents : List ℕ) (is : image.sections
         (recursion_from_All (λ r. Any (Has r 8) (file_sections image)) image.relocs has)
 
     pub are_low : AreLow image
-    are_low y there = ⊎_elim (λ w. omega arith) (λ w. omega arith) (section_inside y there)
+    are_low y there = grind (arith, section_inside y there)
 
 pub whole_code : (image : Image) (n place m : ℕ) → 0x1000 + n ≤ place → AllByRecursion (IsHome n place m) image.relocs
     → AreWhole image 0x1000 n
-whole_code image n place m behind all r here from to =
-    ⊎_elim (λ a. a.1) (λ a. absurd (omega (arith, to, behind))) (all_at (IsHome n place m) image.relocs r all here)
+whole_code image n place m behind all r here from to = grind (arith, all_at (IsHome n place m) image.relocs r all here)
 
 pub whole_data : (image : Image) (n place m : ℕ) → 0x1000 + n ≤ place → AllByRecursion (IsHome n place m) image.relocs
     → AreWhole image place m
-whole_data image n place m behind all r here from to =
-    ⊎_elim (λ a. absurd (omega (arith, from, behind))) (λ a. a.1) (all_at
-    (IsHome n place m) image.relocs r all here)
+whole_data image n place m behind all r here from to = grind (arith, all_at (IsHome n place m) image.relocs r all here)
 
 -- ---- all relocations are those of the code and those of the data
-
-is_data : (n place m r : ℕ) → 0x1000 + n ≤ place → IsHome n place m r → place ≤ r → in_range place m r ≡ true
-is_data n place m r behind (inl a) far = absurd (omega arith)
-is_data n place m r behind (inr a) far = grind (arith, nat_tests)
 
 pub relocs_parted : (n place m : ℕ) (rs : List ℕ) → 0x1000 + n ≤ place → Ascend rs → AllByRecursion (IsHome n place m) rs
     → filter (in_range 0x1000 n) rs ++ filter (in_range place m) rs ≡ rs
 relocs_parted n place m [] behind up all = refl
 relocs_parted n place m (r ∷ rs) behind up all =
     ⊎_elim
-    (λ a.
-    let yes : in_range 0x1000 n r ≡ true = grind (arith, nat_tests) in
-    let no : in_range place m r ≡ false = grind (arith, nat_tests) in
-    rw (yes, no) (ap (λ qs. r ∷ qs) (relocs_parted n place m rs behind up.1 all.1)))
+    (λ a. grind (arith, nat_tests, relocs_parted n place m rs behind up.1 all.1))
     (λ a.
     let far : AllByRecursion (λ q. place ≤ q) (r ∷ rs) =
     (a.0, each_of (λ q. r + 8 ≤ q) (λ q. place ≤ q) rs (λ q high. omega arith) up.0) in
     ap (λ qs. qs ++ filter (in_range place m) (r ∷ rs)) (keep_none (in_range 0x1000 n) (r ∷ rs)
     (each_of (λ q. place ≤ q) (λ q. in_range 0x1000 n q ≡ false) (r ∷ rs) (λ q high. grind (arith, nat_tests)) far))
     ∙ keep_all (in_range place m) (r ∷ rs)
-    (each_of_both (IsHome n place m) (λ q. place ≤ q) (λ q. in_range place m q ≡ true) (r ∷ rs) (λ q. is_data n place m q behind) all far))
+    (each_of_both (IsHome n place m) (λ q. place ≤ q) (λ q. in_range place m q ≡ true) (r ∷ rs)
+    (λ q home from. grind (arith, nat_tests)) all far))
     all.0
 
 -- ---- how many there are
@@ -260,12 +233,8 @@ count_from a end (r ∷ rs) low up ends within = omega (arith, count_from (r + 8
 pub count_relocs : (n place m : ℕ) (rs : List ℕ) → 0x1000 + n ≤ place → Ascend rs → AllByRecursion (IsHome n place m) rs
     → 0x1000 + 8 * length rs ≤ place + m
 count_relocs n place m rs behind up all =
-    count_from 0x1000 (place + m) rs
-    (each_of (IsHome n place m) (λ r. 0x1000 ≤ r) rs
-    (λ r home. ⊎_elim (λ a. a.0) (λ a. omega (arith, behind)) home) all) up
-    (each_of (IsHome n place m) (λ r. r + 8 ≤ place + m) rs
-    (λ r home. ⊎_elim (λ a. omega (arith, behind)) (λ a. a.1) home) all)
-    (omega (arith, behind))
+    count_from 0x1000 (place + m) rs (each_of (IsHome n place m) (λ r. 0x1000 ≤ r) rs (λ r home. grind arith) all) up
+    (each_of (IsHome n place m) (λ r. r + 8 ≤ place + m) rs (λ r home. grind arith) all) (omega (arith, behind))
 
 -- ---- the same by recursion
 

@@ -8,7 +8,7 @@ use Rattle.link_laws.proofs.Common.{section_kind, ends_of, same_bytes, takes_lab
 use Rattle.link_laws.proofs.Common.{false_from_ne_true}
 use Rattle.ebc_asm.specs.Symbols.{place_of}
 use Rattle.link_laws.proofs.{ItemLaws.line_bytes, SectionLaws.bytes_of_lines, PlaceLaws.is_label_of, FixupWalk.target_use, FixupWalk.use_at}
-use Rattle.link_laws.proofs.{FixupWalk.uses_from, Bodies.takes_address, Lines.is_head}
+use Rattle.link_laws.proofs.{FixupWalk.uses_from, Bodies.takes_address, Bodies.is_head}
 use Rattle.ebc_insn.specs.declared.Insn.TheVariants as insns
 use Rattle.ebc_insn.specs.declared.Size.TheVariants as sizes
 use Rattle.asm_text.specs.declared.listing.Listed.TheVariants as listed
@@ -146,9 +146,7 @@ fixups_append w e names (x ∷ xs) ys =
     (fixups_in w (ends_after e x) names xs) (fixups_in w (ends_of (ends_after e x) xs) names ys)))
 
 far_address : (far relative : Bool) → (far && not relative) ≡ true → (relative ≡ false) × (◌≡◌ {A = ℕ} (if far then 8 else 4) 8)
-far_address true false h = (refl, refl)
-far_address true true h = cc h
-far_address false relative h = cc h
+far_address far relative h = grind arith
 
 address_insn : (i : Insn) → takes_label i ≡ true → (is_distance i ≡ false) × (immediate_size i ≡ 8)
 address_insn (insns.MoveImm sizes.Qword bits left lidx imm) h = (refl, refl)

@@ -1,8 +1,7 @@
 use Rattle.ebc_link.proofs.Common.{arith, sym, ◌∙◌, err_from_is_err_and, contents_start}
 use Rattle.pe_image.proofs.RoundTrip.{IsImage-linked}
-use Rattle.ebc_link.proofs.AnswerLaws.{IsOf, ends_resolution, is_of, relocs_apart_there, size_there, told_entry, told_far, told_linked}
-use Rattle.ebc_link.proofs.{AnswerLaws.told_size, ImageLaws.links_layout, LinkedLaws.is_linked, StandLaws.code_grows}
-use Rattle.ebc_link.proofs.StandLaws.{contents_grow}
+use Rattle.ebc_link.proofs.AnswerLaws.{ends_resolution, is_of, relocs_apart_there, size_there, told_entry, told_far, told_linked, told_size}
+use Rattle.ebc_link.proofs.{ImageLaws.links_layout, LinkedLaws.is_linked, StandLaws.code_grows, StandLaws.contents_grow}
 use Rattle.ebc_link.proofs.linking.link.Goals as goal
 
 pub returns-in_err-resolved-clause-answer : goal.returns-in_err-resolved-clause-answer
@@ -13,25 +12,20 @@ returns-in_err-resolved-clause-answer c =
 
 pub returns-in-Some-clause-answer : goal.returns-in-Some-clause-answer
 returns-in-Some-clause-answer c =
-    let os = c.args.objects.now in
-    let r = c.in_ok-resolved.resolved in
     let it = c.in_ok-resolved.ensures in
-    let of : IsOf r os = is_of r os it.resolved it.objects it.definitions it.resolution in
-    told_far c.args.plan.now os r c.in-Some.place of (sym c.in-Some.is ∙ c.first_far.ensures)
+    let of = is_of c.in_ok-resolved.resolved c.args.objects.now it.resolved it.objects it.definitions it.resolution in
+    told_far c.args.plan.now c.in-Some.place of (sym c.in-Some.is ∙ c.first_far.ensures)
 
 pub returns-in_default-entry-clause-answer : goal.returns-in_default-entry-clause-answer
 returns-in_default-entry-clause-answer c =
-    let os = c.args.objects.now in
-    let r = c.in_ok-resolved.resolved in
     let it = c.in_ok-resolved.ensures in
-    let of : IsOf r os = is_of r os it.resolved it.objects it.definitions it.resolution in
-    told_entry c.args.plan.now os r of (sym c.in_default.is ∙ c.first_far.ensures) (sym c.in_default-entry.is ∙ c.entry.ensures)
+    let of = is_of c.in_ok-resolved.resolved c.args.objects.now it.resolved it.objects it.definitions it.resolution in
+    told_entry c.args.plan.now of (sym c.in_default.is ∙ c.first_far.ensures) (sym c.in_default-entry.is ∙ c.entry.ensures)
 
 pub size-size-requires-clause-code : goal.size-size-requires-clause-code
 size-size-requires-clause-code c =
     let b = c.bounds_of-bounds.ensures in
-    let grows = code_grows 0x1000 c.args.objects.now in
-    (omega (arith, grows, b.code_ends), b.code_small)
+    (omega (arith, code_grows 0x1000 c.args.objects.now, b.code_ends), b.code_small)
 
 pub size-size-requires-clause-contents : goal.size-size-requires-clause-contents
 size-size-requires-clause-contents c =
@@ -41,41 +35,33 @@ size-size-requires-clause-contents c =
 
 pub size-size-requires-clause-apart : goal.size-size-requires-clause-apart
 size-size-requires-clause-apart c =
-    let os = c.args.objects.now in
-    let r = c.in_ok-resolved.resolved in
     let it = c.in_ok-resolved.ensures in
-    let of : IsOf r os = is_of r os it.resolved it.objects it.definitions it.resolution in
-    relocs_apart_there os r c.deref.result.now c.requires.objects of (c.deref.ensures.value ∙ c.in-Ok.ensures)
+    let of = is_of c.in_ok-resolved.resolved c.args.objects.now it.resolved it.objects it.definitions it.resolution in
+    relocs_apart_there c.deref.result.now c.requires.objects of (c.deref.ensures.value ∙ c.in-Ok.ensures)
 
 pub returns-then-size-gt-MOST-clause-answer : goal.returns-then-size-gt-MOST-clause-answer
 returns-then-size-gt-MOST-clause-answer c =
-    let os = c.args.objects.now in
-    let r = c.in_ok-resolved.resolved in
     let it = c.in_ok-resolved.ensures in
-    let of : IsOf r os = is_of r os it.resolved it.objects it.definitions it.resolution in
-    told_size c.args.plan.now os r c.bounds_of-bounds.result c.in-Some-entry.entry c.size-size.result c.deref.result.now
-    c.requires.objects of c.bounds_of-bounds.ensures (sym c.in_default.is ∙ c.first_far.ensures)
-    (sym c.in-Some-entry.is ∙ c.entry.ensures) (c.deref.ensures.value ∙ c.in-Ok.ensures) c.size-size.ensures (omega arith)
+    let of = is_of c.in_ok-resolved.resolved c.args.objects.now it.resolved it.objects it.definitions it.resolution in
+    told_size c.args.plan.now c.bounds_of-bounds.result c.in-Some-entry.entry c.size-size.result c.deref.result.now c.requires.objects of
+    c.bounds_of-bounds.ensures (sym c.in_default.is ∙ c.first_far.ensures) (sym c.in-Some-entry.is ∙ c.entry.ensures)
+    (c.deref.ensures.value ∙ c.in-Ok.ensures) c.size-size.ensures (omega arith)
 
 pub image-image-requires-clause-size : goal.image-image-requires-clause-size
 image-image-requires-clause-size c =
-    let os = c.args.objects.now in
-    let r = c.in_ok-resolved.resolved in
     let it = c.in_ok-resolved.ensures in
-    let of : IsOf r os = is_of r os it.resolved it.objects it.definitions it.resolution in
-    size_there c.args.plan.now os r c.bounds_of-bounds.result c.in-Some-entry.entry c.size-size.result c.deref.result.now
-    c.requires.objects of c.bounds_of-bounds.ensures (c.deref.ensures.value ∙ c.in-Ok.ensures) c.size-size.ensures
+    let of = is_of c.in_ok-resolved.resolved c.args.objects.now it.resolved it.objects it.definitions it.resolution in
+    size_there c.args.plan.now c.bounds_of-bounds.result c.in-Some-entry.entry c.size-size.result c.deref.result.now c.requires.objects of
+    c.bounds_of-bounds.ensures (sym c.in_default.is ∙ c.first_far.ensures) (sym c.in-Some-entry.is ∙ c.entry.ensures)
+    (c.deref.ensures.value ∙ c.in-Ok.ensures) c.size-size.ensures
 
 pub returns-clause-answer : goal.returns-clause-answer
 returns-clause-answer c =
-    let os = c.args.objects.now in
-    let r = c.in_ok-resolved.resolved in
     let it = c.in_ok-resolved.ensures in
-    let of : IsOf r os = is_of r os it.resolved it.objects it.definitions it.resolution in
-    told_linked c.args.plan.now os r c.bounds_of-bounds.result c.in-Some-entry.entry c.size-size.result c.deref.result.now
-    c.in_ok-image.field-0 c.requires.objects of c.bounds_of-bounds.ensures (sym c.in_default.is ∙ c.first_far.ensures)
-    (sym c.in-Some-entry.is ∙ c.entry.ensures) (c.deref.ensures.value ∙ c.in-Ok.ensures) c.size-size.ensures (omega arith)
-    c.in_ok-image.ensures.image
+    let of = is_of c.in_ok-resolved.resolved c.args.objects.now it.resolved it.objects it.definitions it.resolution in
+    told_linked c.args.plan.now c.bounds_of-bounds.result c.in-Some-entry.entry c.size-size.result c.deref.result.now c.requires.objects of
+    c.bounds_of-bounds.ensures (sym c.in_default.is ∙ c.first_far.ensures) (sym c.in-Some-entry.is ∙ c.entry.ensures)
+    (c.deref.ensures.value ∙ c.in-Ok.ensures) c.size-size.ensures c.in_ok-image.field-0 (omega arith) c.in_ok-image.ensures.image
 
 pub returns-clause-linked : goal.returns-clause-linked
 returns-clause-linked c =

@@ -1,6 +1,6 @@
 use Rattle.link_laws.proofs.Common.{◌∙◌}
 use Rattle.pe_image.proofs.RoundTrip.{IsImage-linked}
-use Rattle.link_laws.proofs.ListedAgain.{IsListed, IsPlanOf, all_one, listed, same_file}
+use Rattle.link_laws.proofs.Again.{IsListed, IsPlanOf, all_one, is_listed, same_file}
 use Rattle.link_laws.proofs.relinking.relinked.Goals as goal
 
 pub list-requires : goal.list-requires
@@ -9,7 +9,7 @@ list-requires c = IsImage-linked c.args.image.now c.requires.listable.linked
 pub linked-requires-clause-objects : goal.linked-requires-clause-objects
 linked-requires-clause-objects c =
     let here : IsListed c.args.image.now c.in_ok-assembled.field-0 =
-    listed c.args.image.now c.deref.result.now c.in_ok-assembled.field-0 c.requires.listable
+    is_listed c.args.image.now c.deref.result.now c.in_ok-assembled.field-0 c.requires.listable
     (c.deref.ensures.value ∙ c.in_ok-source.ensures) c.in_ok-assembled.ensures
     in
     all_one c.deref-2.result.now c.in_ok-assembled.field-0 (c.deref-2.ensures.value ∙ c.in_ok-objects.ensures.items) here.object
@@ -17,7 +17,7 @@ linked-requires-clause-objects c =
 pub returns : goal.returns
 returns c =
     let here : IsListed c.args.image.now c.in_ok-assembled.field-0 =
-    listed c.args.image.now c.deref.result.now c.in_ok-assembled.field-0 c.requires.listable
+    is_listed c.args.image.now c.deref.result.now c.in_ok-assembled.field-0 c.requires.listable
     (c.deref.ensures.value ∙ c.in_ok-source.ensures) c.in_ok-assembled.ensures
     in
     let planned : IsPlanOf c.args.image.now c.args.plan.now = record {

@@ -1,7 +1,7 @@
 use Rattle.ebc_link.proofs.Common.{[], ◌∷◌, ◌++◌, ap, append-nil, append_assoc, arith, sym, take, drop, ◌+◌, ◌∙◌, ◌≡◌, take_all}
 use Rattle.ebc_link.proofs.Common.{err_from_is_err_and, Twice, unless_some, definitions_in, first_again, names_of, defined}
 use Rattle.ebc_link.proofs.{AgainLaws.again_none, EndLaws.none_where_ok, EndLaws.twice-fails, EndLaws.twice-more}
-use Rattle.ebc_link.proofs.GlobalLaws.{definitions-more, definitions-split}
+use Rattle.ebc_link.proofs.{GlobalLaws.definitions-more, GlobalLaws.definitions-split}
 use Rattle.ebc_link.proofs.globals.Globals.add_all.Goals as goal
 
 pub loop-symbol-init : goal.loop-symbol-init

@@ -2,7 +2,7 @@ use Rattle.ebc_link.proofs.Common.{◌≡◌, ◌+◌, ◌++◌, [], ap, arith, 
 use Rattle.ebc_link.proofs.Common.{laid_with, Fails, Twice, unless_some, definitions, definitions_in, first_again, names_of, defined}
 use Rattle.ebc_link.proofs.{AgainLaws.again_none, EndLaws.none_where_ok, EndLaws.twice-fails, EndLaws.twice-more, GlobalLaws.objects-more}
 use Rattle.ebc_link.proofs.{GlobalLaws.objects-split, LaidLaws.IsAt, LaidLaws.at_number, LaidLaws.laid_at, LaidLaws.laid_more}
-use Rattle.ebc_link.proofs.LaidLaws.{laid_taken, length-laid, no_home}
+use Rattle.ebc_link.proofs.{LaidLaws.laid_taken, LaidLaws.length-laid, LaidLaws.no_home}
 use Rattle.ebc_link.proofs.globals.Globals.of.Goals as goal
 
 pub loop-number-init : goal.loop-number-init

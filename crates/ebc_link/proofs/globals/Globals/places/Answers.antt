@@ -1,9 +1,10 @@
-use Rattle.ebc_link.proofs.Common.{◌≡◌, ◌+◌, ◌++◌, List, [], ◌∷◌, ap, arith, drop, get_or, map, subst, sym, take, ◌∙◌, find, option_map}
+use Rattle.ebc_link.proofs.Common.{drop_all, ◌≡◌, ◌+◌, ◌++◌, List, [], ◌∷◌, ap, arith, drop, get_or, map, subst, sym, take, ◌∙◌, find}
+use Rattle.ebc_link.proofs.Common.{option_map}
 use Rattle.ebc_link.proofs.Common.{take_all, err_from_is_err_and, Symbol, laid_with, Fails, Undefined, unless_some, first_in, is_undefined}
 use Rattle.ebc_link.proofs.Common.{places_of, symbol_place, undefined_in, defined}
 use Rattle.std.proofs.lemmas.List.{map_push}
 use Rattle.ebc_link.proofs.LaidLaws.{IsAt, at_number, laid_at, laid_more, laid_taken, length-laid, no_home}
-use Rattle.ebc_link.proofs.{EndLaws.fails_as, EndLaws.none_where_ok, FirstLaws.first_here, FirstLaws.first_more, FirstLaws.first_none}
+use Rattle.ebc_link.proofs.{EndLaws.fails_as, EndLaws.none_where_ok, FirstLaws.first_here, FirstLaws.first_more}
 use Rattle.ebc_link.proofs.globals.Globals.places.Goals as goal
 
 pub returns-in_err-symbol_places-clause-undefined : goal.returns-in_err-symbol_places-clause-undefined
@@ -49,12 +50,12 @@ loop-number-preserved c =
     }
 
 pub returns-clause-undefined : goal.returns-clause-undefined
+unfolding first_in
 returns-clause-undefined c =
-    let ds = defined c.args.self.now in
     let ls = laid_with c.args.objects.now c.args.homes.now in
     let long = length-laid c.args.objects.now c.args.homes.now c.requires.homes in
-    ap (unless_some Undefined)
-    (first_none (undefined_in ds) ls c.loop-number.number (omega (arith, long, c.loop-number-test.false)) c.loop-number.invariant.first)
+    let none = drop_all c.loop-number.number ls (omega (arith, long, c.loop-number-test.false)) in
+    ap (unless_some Undefined) (sym (rw none at c.loop-number.invariant.first))
 
 pub returns-clause-places : goal.returns-clause-places
 returns-clause-places c =

@@ -1,6 +1,7 @@
-use Rattle.ebc_link.proofs.Common.{◌≡◌, ℕ, ◌+◌, ◌-◌, ◌++◌, List, drop, length, ap, ap₂, arith, rules, ◌∙◌, zeros, section_bytes, bytes_for}
+use Rattle.ebc_link.proofs.Common.{drop_all, append-nil, ◌≡◌, ℕ, ◌+◌, ◌-◌, ◌++◌, List, drop, length, ap, ap₂, arith, rules, ◌∙◌, zeros}
+use Rattle.ebc_link.proofs.Common.{section_bytes, bytes_for}
 use Rattle.ebc_link.proofs.Common.{filled_section, in_section, with_fixups, section_from, start_of, defined_in, laid_in, laid_of}
-use Rattle.ebc_link.proofs.{BytesLaws.section_all, BytesLaws.section_more, LaidLaws.length-laid}
+use Rattle.ebc_link.proofs.{BytesLaws.section_more, LaidLaws.length-laid}
 use Rattle.ebc_link.proofs.resolved.Resolved.bytes.Goals as goal
 
 pub loop-number-preserved : goal.loop-number-preserved
@@ -27,8 +28,9 @@ loop-number-preserved c =
     record { joined = both.0; packed = both.1 }
 
 pub returns : goal.returns
+unfolding section_from
 returns c =
     let r = c.args.self.now in
     let long = length-laid r.objects.now r.homes.items c.requires.resolved.homes in
-    section_all c.args.section (filled_section c.args.section c.args.base (defined_in r)) _ c.loop-number.number (laid_in r)
-    c.loop-number.bytes.items _ (omega (arith, long, c.loop-number-test.false)) c.loop-number.invariant.joined
+    let none = drop_all c.loop-number.number (laid_in r) (omega (arith, long, c.loop-number-test.false)) in
+    rw (none, append-nil) at c.loop-number.invariant.joined

@@ -1,5 +1,5 @@
-use Rattle.ebc_link.proofs.Common.{◌+◌, drop, sym, ◌∙◌, arith, entry_in, laid_in, laid_of}
-use Rattle.ebc_link.proofs.{FirstLaws.first_here, FirstLaws.first_more, FirstLaws.first_none, LaidLaws.length-laid}
+use Rattle.ebc_link.proofs.Common.{drop_all, first_in, ◌+◌, drop, sym, ◌∙◌, arith, entry_in, laid_in, laid_of}
+use Rattle.ebc_link.proofs.{FirstLaws.first_here, FirstLaws.first_more, LaidLaws.length-laid}
 use Rattle.ebc_link.proofs.resolved.Resolved.entry.Goals as goal
 
 pub returns-in-Some : goal.returns-in-Some
@@ -19,8 +19,8 @@ loop-number-preserved c =
     (sym c.entry.ensures ∙ c.in_default.is) c.loop-number.invariant
 
 pub returns : goal.returns
+unfolding first_in
 returns c =
     let r = c.args.self.now in
     let long = length-laid r.objects.now r.homes.items c.requires.homes in
-    sym (first_none (entry_in c.args.name.now) (laid_in r) c.loop-number.number (omega (arith, long, c.loop-number-test.false))
-    c.loop-number.invariant)
+    rw (drop_all c.loop-number.number (laid_in r) (omega (arith, long, c.loop-number-test.false))) at c.loop-number.invariant

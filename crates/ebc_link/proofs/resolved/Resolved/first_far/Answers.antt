@@ -1,5 +1,5 @@
-use Rattle.ebc_link.proofs.Common.{◌+◌, drop, sym, ◌∙◌, arith, far_in, defined_in, laid_in, laid_of}
-use Rattle.ebc_link.proofs.{ResolvedLaws.far_so, FirstLaws.first_here, FirstLaws.first_more, FirstLaws.first_none, LaidLaws.length-laid}
+use Rattle.ebc_link.proofs.Common.{drop_all, first_in, ◌+◌, drop, sym, ◌∙◌, arith, far_in, defined_in, laid_in, laid_of}
+use Rattle.ebc_link.proofs.{ResolvedLaws.far_so, FirstLaws.first_here, FirstLaws.first_more, LaidLaws.length-laid}
 use Rattle.ebc_link.proofs.resolved.Resolved.first_far.Goals as goal
 
 pub returns-in-Some : goal.returns-in-Some
@@ -19,8 +19,8 @@ loop-number-preserved c =
     (far_so (defined_in r) p c.first_far.result c.piece.ensures.places c.first_far.ensures ∙ c.in_default.is) c.loop-number.invariant
 
 pub returns : goal.returns
+unfolding first_in
 returns c =
     let r = c.args.self.now in
     let long = length-laid r.objects.now r.homes.items c.requires.homes in
-    sym (first_none (far_in (defined_in r)) (laid_in r) c.loop-number.number (omega (arith, long, c.loop-number-test.false))
-    c.loop-number.invariant)
+    rw (drop_all c.loop-number.number (laid_in r) (omega (arith, long, c.loop-number-test.false))) at c.loop-number.invariant

@@ -1,6 +1,6 @@
-use Rattle.ebc_link.proofs.Common.{◌≡◌, ap, sym, ◌∙◌, map, err_from_is_err_and, laid_with, Twice, unless_some, definitions, first_again}
-use Rattle.ebc_link.proofs.Common.{names_of, places_of, defined, length, []}
-use Rattle.ebc_link.proofs.AnswerLaws.{are_placed, ends_names, ends_places, laid_by, length-homes_of, length-placed}
+use Rattle.ebc_link.proofs.Common.{◌≡◌, ap, sym, ◌∙◌, length-map, err_from_is_err_and, laid_with, Twice, definitions, first_again, names_of}
+use Rattle.ebc_link.proofs.Common.{places_of, length, [], defined}
+use Rattle.ebc_link.proofs.{AnswerLaws.laid_by, AnswerLaws.length-homes_of, EndLaws.fails_first, LaidLaws.length-laid}
 use Rattle.ebc_link.proofs.resolved.Resolved.of.Goals as goal
 
 pub of-requires-clause-homes : goal.of-requires-clause-homes
@@ -16,33 +16,26 @@ returns-in_err-globals-clause-resolution c =
     let p = err_from_is_err_and c.from_residual-in_err-globals.result c.from_residual-in_err-globals.ensures.1 in
     let os = c.args.objects.now in
     let hs = c.deref.result.now in
-    rw (p.1, p.2)
-    (ends_names os (laid_with os hs) c.in_err-globals.field-0.0 (laid_by os hs (c.deref.ensures.value ∙ c.in_ok-homes.ensures.homes))
+    rw (p.1, p.2, ← laid_by os hs (c.deref.ensures.value ∙ c.in_ok-homes.ensures.homes))
+    (fails_first Twice c.in_err-globals.field-0.0 (first_again [] (names_of (definitions (laid_with os hs)))) _
     c.in_err-globals.ensures.twice)
 
 pub returns-in_err-places-clause-resolution : goal.returns-in_err-places-clause-resolution
 returns-in_err-places-clause-resolution c =
     let p = err_from_is_err_and c.from_residual-in_err-places.result c.from_residual-in_err-places.ensures.1 in
-    let os = c.args.objects.now in
-    let hs = c.deref-2.result.now in
+    let laid = laid_by c.args.objects.now c.deref-2.result.now (c.deref-2.ensures.value ∙ c.in_ok-homes.ensures.homes) in
     let same = c.deref.ensures.value ∙ sym c.deref-2.ensures.value in
-    rw (p.1, p.2)
-    (ends_places os (laid_with os hs) (defined c.in_ok-globals.globals) c.in_err-places.field-0.0
-    (laid_by os hs (c.deref-2.ensures.value ∙ c.in_ok-homes.ensures.homes))
-    (c.in_ok-globals.ensures.defined ∙ ap (λ gs. definitions (laid_with os gs)) same)
-    (ap (λ gs. unless_some Twice (first_again [] (names_of (definitions (laid_with os gs))))) (sym same) ∙ c.in_ok-globals.ensures.twice)
-    c.in_err-places.ensures.undefined)
+    let once = rw same at c.in_ok-globals.ensures.twice in
+    let all = rw same at c.in_ok-globals.ensures.defined in
+    rw (p.1, p.2, ← laid, once) (rw all at c.in_err-places.ensures.undefined)
 
 pub returns-clause-resolution : goal.returns-clause-resolution
 returns-clause-resolution c =
-    let os = c.args.objects.now in
-    let hs = c.deref-2.result.now in
+    let laid = laid_by c.args.objects.now c.deref-2.result.now (c.deref-2.ensures.value ∙ c.in_ok-homes.ensures.homes) in
     let same = c.deref.ensures.value ∙ sym c.deref-2.ensures.value in
-    are_placed os (laid_with os hs) (defined c.in_ok-globals.globals)
-    (laid_by os hs (c.deref-2.ensures.value ∙ c.in_ok-homes.ensures.homes))
-    (c.in_ok-globals.ensures.defined ∙ ap (λ gs. definitions (laid_with os gs)) same)
-    (ap (λ gs. unless_some Twice (first_again [] (names_of (definitions (laid_with os gs))))) (sym same) ∙ c.in_ok-globals.ensures.twice)
-    c.in_ok-places.ensures.undefined
+    let once = rw same at c.in_ok-globals.ensures.twice in
+    let all = rw same at c.in_ok-globals.ensures.defined in
+    rw (← laid, once) (rw all at c.in_ok-places.ensures.undefined)
 
 pub returns-clause-definitions : goal.returns-clause-definitions
 returns-clause-definitions c =
@@ -53,15 +46,13 @@ pub returns-clause-resolved : goal.returns-clause-resolved
 returns-clause-resolved c =
     let os = c.args.objects.now in
     let hs = c.in_ok-homes.homes.items in
-    let ds = defined c.in_ok-globals.globals in
     let many : length hs ≡ length os = ap length c.in_ok-homes.ensures.homes ∙ length-homes_of os in
-    let places : c.in_ok-places.places.items ≡ map (places_of ds) (laid_with os hs) =
-    c.in_ok-places.ensures.places ∙ ap (λ gs. map (places_of ds) (laid_with os gs)) c.deref-2.ensures.value in
+    let places = rw c.deref-2.ensures.value at c.in_ok-places.ensures.places in
     record {
       objects = c.requires.objects;
       few = c.requires.few;
       homes = many;
-      count = length-placed os hs ds c.in_ok-places.places.items many places;
+      count = rw (places, length-map (laid_with os hs) (places_of (defined c.in_ok-globals.globals))) (length-laid os hs many);
       low = c.in_ok-homes.ensures.low;
       stands = c.in_ok-homes.ensures.homes;
       places = places;

@@ -1,6 +1,6 @@
-use Rattle.ebc_link.proofs.Common.{defined_in}
-use Rattle.ebc_link.proofs.{LaidLaws.laid_more, ResolvedLaws.is_at, ResolvedLaws.length-places, ResolvedLaws.low_at, ResolvedLaws.object_at}
-use Rattle.ebc_link.proofs.ResolvedLaws.{places_at}
+use Rattle.ebc_link.proofs.Common.{arith, subst, sym, IsLow, defined_in}
+use Rattle.ebc_link.proofs.LaidLaws.{laid_more}
+use Rattle.ebc_link.proofs.ResolvedLaws.{is_at, length-places, places_at}
 use Rattle.ebc_link.proofs.resolved.Resolved.piece.Goals as goal
 
 pub returns-clause-places : goal.returns-clause-places
@@ -16,8 +16,10 @@ returns-clause-laid c =
 
 pub returns-clause-piece : goal.returns-clause-piece
 returns-clause-piece c =
+    let resolved = c.requires.resolved in
+    let low = resolved.low c.args.number c.index.result.now (omega (arith, c.requires.number, resolved.homes)) in
     record {
-      object = object_at c.args.self.now c.args.number c.index-self-number.result c.requires.resolved c.requires.number;
-      low = low_at c.args.self.now c.args.number c.index.result.now c.requires.resolved c.requires.number c.index.ensures;
+      object = resolved.objects c.args.number c.index-self-number.result c.requires.number;
+      low = subst IsLow (sym c.index.ensures) low;
       places = length-places (defined_in c.args.self.now) _ c.index.result.now c.as_slice.result.now (returns-clause-places c);
     }
