@@ -23,7 +23,7 @@ edited() {
   cmp -s wanted found || fail "$2"$'\n'"$(diff wanted found | head -n 12)"
 }
 # The same without the lines of the state at the end, and with them.
-row() { edited '/^state$/,/^end /{/^end /!d}' "$@"; }
+row() { edited '/^state$/,/^\(32 \)\?end /{/^\(32 \)\?end /!d}' "$@"; }
 whole() { edited '' "$@"; }
 line() { row "$1" "$2" "${@:4}" <<<"$3"; }
 
@@ -690,6 +690,55 @@ step 32 gate
   R5 0000000000000000
 end 32 gate finished status ok 0
 .
+state 'the states in a callback, at both' both 22 <<'.'
+step 22 00001044 tick+0x0 MOVIqw R7, 0
+state
+  32 R0 000000000010414c stack+0xec
+  64 R0 00000002000041c8 stack+0x168
+  R1 0000000000000000
+  R2 0000000000000000
+  R3 0000000000000000
+  32 R4 00000000001071a0 ptr 0 0
+  64 R4 0000000200007230 ptr 0 0
+  32 R5 0000000000106190 image+0x2000
+  64 R5 0000000200006220 image+0x2000
+  R6 0000000000000000
+  R7 0000000000000000
+  32 ip 00000000001051d8 tick+0x4
+  64 ip 0000000200005268 tick+0x4
+  C 0
+  32 entered tick 00000000001051c8 main+0x38
+  64 entered tick 0000000200005258 main+0x38
+  called 1 register
+  32 entered main 0000000000100000 gate
+  64 entered main 0000000200000000 gate
+  32 bytes 0000000000106190 image+0x2000 ..001000........................
+  64 bytes 0000000200006220 image+0x2000 ..00000002......................
+end 22 00001048 running
+.
+state 'once both runs are over' both 32 <<'.'
+step 32 gate
+  32 R0 0000000000104180
+  64 R0 0000000200004210
+  R4 0000000000000000
+  R5 0000000000000000
+state
+  32 R0 0000000000104180
+  64 R0 0000000200004210
+  R1 0000000000000000
+  R2 0000000000000000
+  R3 0000000000000000
+  R4 0000000000000000
+  R5 0000000000000000
+  R6 0000000000000000
+  R7 0000000000000000
+  32 ip 0000000000100000 gate
+  64 ip 0000000200000000 gate
+  C 0
+  32 bytes 0000000000106190 image+0x2000 ..001000........................
+  64 bytes 0000000200006220 image+0x2000 ..00000002......................
+end 32 gate finished status ok 0
+.
 driver 'a part at both' both 8 10 <<'.'
 step 8 00001016 main+0x16
   call 00001014 locate out
@@ -862,7 +911,7 @@ end 6 gate finished any
 # ---- docs/HOST.md, "A run that parts", and others that do
 
 built 'main: | MOVInw R4, (+1,+0) | CMPI64weq R4, 8 | JMP8cc -2 | RET' 0x100c
-row 'a run that parts, at both' 8 both i.efi i.notes i.script 1 100 <<'.'
+whole 'a run that parts, at both' 8 both i.efi i.notes i.script 1 100 <<'.'
 step 1 00001000 main+0x0 MOVInw R4, (+1,+0)
   32 R4 0000000000000004
   64 R4 0000000000000008
@@ -870,6 +919,23 @@ step 2 00001004 main+0x4 CMPI64weq R4, 8
   64 C 1
 differ 3
 step 3 00001008 main+0x8 JMP8cc -2
+state
+  32 R0 00000000001040b0 stack+0x80
+  64 R0 00000002000040b0 stack+0x80
+  R1 0000000000000000
+  R2 0000000000000000
+  R3 0000000000000000
+  32 R4 0000000000000004
+  64 R4 0000000000000008
+  R5 0000000000000000
+  R6 0000000000000000
+  R7 0000000000000000
+  32 ip 00000000001050d6 main+0x6
+  64 ip 00000002000050da main+0xa
+  32 C 0
+  64 C 1
+  32 entered main 0000000000100000 gate
+  64 entered main 0000000200000000 gate
 32 end 3 00001006 running
 64 end 3 0000100a running
 .
@@ -921,12 +987,72 @@ step 4 0000100a main+0xa DIV64 R5, R4
 
 # With an entry past the image the runs differ before their first step.
 sed -i 's/^place = .*/place = 0x5000/; s/^end = .*/end = 0x5002/' i.notes
-row 'an entry past the image' 8 both i.efi i.notes i.script 1 100 <<'.'
+whole 'an entry past the image' 8 both i.efi i.notes i.script 1 100 <<'.'
 differ 0
 32 step 1 wild 00000000001090d0
 64 step 1 wild 00000002000090d0
+state
+  32 R0 00000000001040b0 stack+0x80
+  64 R0 00000002000040b0 stack+0x80
+  R1 0000000000000000
+  R2 0000000000000000
+  R3 0000000000000000
+  R4 0000000000000000
+  R5 0000000000000000
+  R6 0000000000000000
+  R7 0000000000000000
+  32 ip 00000000001090d0
+  64 ip 00000002000090d0
+  C 0
+  32 entered main 0000000000100000 gate
+  64 entered main 0000000200000000 gate
 32 end 1 wild 00000000001090d0 raised memory_fault
 64 end 1 wild 00000002000090d0 raised memory_fault
+.
+
+# ---- rows of bytes at both widths, by what they are of
+#
+# The stack begins at 0x104030 or 0x200004030, and takes nine times 20 or 24 bytes. The image is 0x2000 bytes from 0x104100 or 0x200004120
+# on. Object 0 has two instances of 16 or 32 bytes from 0x106110 or 0x200006130 on, and object 1 is 16 bytes from 0x106140 or 0x200006180 on.
+
+cells='main: | MOVnw R4, @R0(+0,+16) | MOVRELd R5, 4066 | MOVnw @R5, R4 | MOVIbw @R4, 1 | MOVIbw @R4(+4,+0), 2 | MOVIbw @R4(+7,+0), 3'
+built "$cells | MOVIbw @R4(+8,+16), 4 | RET" 0x1024
+lines 'params = ["n ptr:Four"]' '[[shape]]' 'name = "Four"' 'size = [4, 0]' 'fields = ["first 0 0 i8"]' \
+  '[[shape]]' 'name = "Block"' 'size = [0, 16]' 'fields = ["first 0 0 i8"]' >>i.notes
+lines 'version = 1' 'args = ["ptr 0 0"]' '[[object]]' 'shape = "Four"' 'count = 2' 'cells = []' \
+  '[[object]]' 'shape = "Block"' 'count = 1' 'cells = []' >i.script
+whole 'rows of bytes at both' 0 both i.efi i.notes i.script 7 7 <<'.'
+step 7 0000101c main+0x1c MOVIbw @R4(+8,+16), 4
+  32 store 0000000000106140 04
+  64 store 0000000200006180 04
+state
+  32 R0 00000000001040d0 stack+0xa0
+  64 R0 00000002000040f0 stack+0xc0
+  R1 0000000000000000
+  R2 0000000000000000
+  R3 0000000000000000
+  32 R4 0000000000106110 ptr 0 0
+  64 R4 0000000200006130 ptr 0 0
+  32 R5 00000000001060ec image+0x1fec
+  64 R5 000000020000610c image+0x1fec
+  R6 0000000000000000
+  R7 0000000000000000
+  32 ip 0000000000105122 main+0x22
+  64 ip 0000000200005142 main+0x22
+  C 0
+  32 entered main 0000000000100000 gate
+  64 entered main 0000000200000000 gate
+  32 bytes 00000000001060e0 image+0x1fe0 ........................106110..
+  64 bytes 0000000200006100 image+0x1fe0 ........................3061....
+  64 bytes 0000000200006110 image+0x1ff0 02..............................
+  32 bytes 0000000000106110 ptr 0 0 01..............................
+  64 bytes 0000000200006130 ptr 0 0 01..............................
+  32 bytes 0000000000106120 ptr 0 0+0x10 02......................03......
+  64 bytes 0000000200006150 ptr 0 0+0x20 02..............................
+  64 bytes 0000000200006160 ptr 0 0+0x30 ................03..............
+  32 bytes 0000000000106140 ptr 1 0 04..............................
+  64 bytes 0000000200006180 ptr 1 0 04..............................
+end 7 00001022 running
 .
 
 # ---- what arguments point to
@@ -1040,12 +1166,31 @@ state
   more 2
 end 9 0000101e running
 .
-row 'texts and bytes, at both' 0 both texts.efi texts.notes texts.script 9 9 <<'.'
+edited '/^  [RCei]\|^  \(32\|64\) [Rei]/d' 'texts and bytes, at both' 0 both texts.efi texts.notes texts.script 9 9 <<'.'
 step 9 0000101e main+0x1e
   call 0000101c print ptr 2 0 ptr 1 0 ptr 0 0
   argument 0 0102030405060708090a0b0c0d0e0f10
   argument 1 "Hi~"
   argument 2 "H\u0022\u005c\u00e9\u000a\u20ac"
+state
+  called 0 print
+  32 bytes 00000000001071a0 ptr 4 0 01..............................
+  64 bytes 0000000200007230 ptr 4 0 01..............................
+  32 bytes 00000000001071b0 ptr 4 0+0x10 02..............................
+  64 bytes 0000000200007240 ptr 4 0+0x10 02..............................
+  32 bytes 00000000001071c0 ptr 4 0+0x20 03..............................
+  64 bytes 0000000200007250 ptr 4 0+0x20 03..............................
+  32 bytes 00000000001071d0 ptr 4 0+0x30 04..............................
+  64 bytes 0000000200007260 ptr 4 0+0x30 04..............................
+  32 bytes 00000000001071e0 ptr 4 0+0x40 05..............................
+  64 bytes 0000000200007270 ptr 4 0+0x40 05..............................
+  32 bytes 00000000001071f0 ptr 4 0+0x50 06..............................
+  64 bytes 0000000200007280 ptr 4 0+0x50 06..............................
+  32 bytes 0000000000107200 ptr 4 0+0x60 07..............................
+  64 bytes 0000000200007290 ptr 4 0+0x60 07..............................
+  32 bytes 0000000000107210 ptr 4 0+0x70 08..............................
+  64 bytes 00000002000072a0 ptr 4 0+0x70 08..............................
+  more 2
 end 9 0000101e running
 .
 # Of a call that the firmware doesn't accept, since the script has none.

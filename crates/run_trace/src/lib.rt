@@ -10,6 +10,7 @@
 //!   only by want of memory.
 //! - `tell_step`: takes the next step of a run of an image that goes on, and appends its lines (`text`); the runner is where the run
 //!   is after it (`step`), and counts it (`counted`). `goes_on`: whether the run of a runner does. `Program`: plain data.
+//! - `append_state`: appends the lines of the state of a run, by its state at the start (`state_lines`).
 //! - `steps_tell_stores`: an instruction of a run changes no byte but those that are told of its step (`StepsTellStores`).
 #![tactic(auto)]
 
@@ -25,4 +26,4 @@ mod telling;
 mod walking;
 
 pub use laws::steps_tell_stores;
-pub use telling::{Program, goes_on, tell_step, trace};
+pub use telling::{Program, append_state, goes_on, tell_step, trace};

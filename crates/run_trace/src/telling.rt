@@ -98,8 +98,12 @@ fn next_step<const W: usize>(
     tell_step(alloc, program, runner, number, out)
 }
 
-// Appends the lines of the state of a run that has begun: what the machine holds, what is open and what has changed.
-fn append_state<const W: usize>(
+/// Appends the lines of the state of a run that has begun: what the machine holds, what is open and what has changed.
+///
+/// # Errors
+///
+/// There is no memory for the text.
+pub fn append_state<const W: usize>(
     alloc: Global,
     program: Program,
     runner: &Runner<W>,

@@ -1,6 +1,6 @@
 -- For proofs: how the lines of two texts, one of either width, stand side by side: docs/TRACE.md, "Both widths".
-use Rattle.std.specs.Prelude.{ℕ, List, [], ◌∷◌, ◌++◌, Bool, not, ◌==◌, if◌then◌else◌, bytes_eq, codes, drop, take}
-use Rattle.std.specs.List.{before_first, flat_map, list_any, position_or_len}
+use Rattle.std.specs.Prelude.{ℕ, List, [], ◌∷◌, ◌++◌, Bool, not, ◌==◌, ◌&&◌, if◌then◌else◌, bytes_eq, codes, drop, take}
+use Rattle.std.specs.List.{after_first, before_first, before_last, flat_map, list_any, position_or_len}
 use Rattle.asm_text.specs.Splits.{lines_of}
 
 -- ---- a line
@@ -17,9 +17,29 @@ word text = before_first (λ b. b == 32) text
 abbrev pub subject : List ℕ → List ℕ
 subject line = word (drop (margin line) line)
 
--- whether two lines are about the same
+-- what stands behind the first blank of a text
+unfoldable pub past_word : List ℕ → List ℕ
+past_word text = after_first (λ b. b == 32) text
+
+-- what stands before the last blank of a text
+unfoldable pub but_last_word : List ℕ → List ℕ
+but_last_word text = before_last (λ b. b == 32) text
+
+-- where the bytes of a row lie, in words: what stands between their address, which is its second word, and the bytes, its last one
+abbrev pub row_place : List ℕ → List ℕ
+row_place line = but_last_word (past_word (past_word (drop (margin line) line)))
+
+-- nothing of a line that is no row of bytes
+abbrev pub place : List ℕ → List ℕ
+place line = if bytes_eq (subject line) (codes "bytes") then row_place line else []
+
+-- whether two places are one of the image, of which each is a word, or are in one object: `ptr`, its number, and where in it
+abbrev pub same_object : List ℕ → List ℕ → Bool
+same_object p q = bytes_eq (word p) (word q) && bytes_eq (but_last_word p) (but_last_word q)
+
+-- whether two lines are about the same: rows of bytes also have the same object
 abbrev pub same_subject : List ℕ → List ℕ → Bool
-same_subject a b = bytes_eq (subject a) (subject b)
+same_subject a b = bytes_eq (subject a) (subject b) && same_object (place a) (place b)
 
 -- a line of one width alone: a mark stands behind its blanks
 abbrev pub marked : List ℕ → List ℕ → List ℕ

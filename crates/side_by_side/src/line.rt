@@ -1,6 +1,6 @@
 //! A line, and two of them side by side.
 ghost use Rattle.std.specs.Prelude.{◌≡◌, ◌++◌, OnOk, codes, drop, take};
-ghost use Rattle.side_by_side.specs.SideBySide.{margin, marked, paired, same_subject, subject, word};
+ghost use Rattle.side_by_side.specs.SideBySide.{but_last_word, margin, marked, paired, past_word, place, row_place, same_object, same_subject, subject, word};
 
 use std::alloc::AllocError;
 
@@ -9,6 +9,9 @@ pub(crate) const AT32: &[u8] = b"32 ";
 
 /// The mark of a line of width 64 alone.
 pub(crate) const AT64: &[u8] = b"64 ";
+
+// The first word of a row of bytes.
+const ROW: &[u8] = b"bytes";
 
 // The blanks that a line begins with, and what follows them.
 fn parts(line: &[u8]) -> (&[u8], &[u8])
@@ -39,11 +42,57 @@ fn subject(line: &[u8]) -> &[u8]
     word(words)
 }
 
+// What stands behind the first blank of a text.
+fn past_word(text: &[u8]) -> &[u8]
+    ensures { result.now ≡ past_word text.now }
+{
+    match text.iter().position(|byte| *byte == b' ') {
+        Some(at) => text.split_at(at + 1).1,
+        None => &[],
+    }
+}
+
+// What stands before the last blank of a text.
+fn but_last_word(text: &[u8]) -> &[u8]
+    ensures { result.now ≡ but_last_word text.now }
+{
+    match text.iter().rposition(|byte| *byte == b' ') {
+        Some(at) => text.split_at(at).0,
+        None => &[],
+    }
+}
+
+// Where the bytes of a row lie.
+fn row_place(line: &[u8]) -> &[u8]
+    ensures { result.now ≡ row_place line.now }
+{
+    let (_, words) = parts(line);
+    but_last_word(past_word(past_word(words)))
+}
+
+// Where the bytes of a line lie that is a row of bytes.
+fn place(line: &[u8]) -> &[u8]
+    ensures { result.now ≡ place line.now }
+{
+    if subject(line) == ROW {
+        row_place(line)
+    } else {
+        &[]
+    }
+}
+
+// Whether two places are one of the image, or are in one object.
+fn same_object(p: &[u8], q: &[u8]) -> bool
+    ensures { result ≡ same_object p.now q.now }
+{
+    word(p) == word(q) && but_last_word(p) == but_last_word(q)
+}
+
 /// Whether two lines are about the same.
 pub(crate) fn same_subject(a: &[u8], b: &[u8]) -> bool
     ensures { result ≡ same_subject a.now b.now }
 {
-    subject(a) == subject(b)
+    subject(a) == subject(b) && same_object(place(a), place(b))
 }
 
 /// Appends a line of one width alone.

@@ -21,7 +21,8 @@ use Rattle.twin_run.specs.Reported.{own_run}
 use Rattle.twin_run.specs.Runner.{IsRunner}
 use Rattle.twin_run.specs.declared.runner.Runner.{Runner}
 use Rattle.twin_run.proofs.Stepping.{ended-is-last}
-use Rattle.twin_trace.specs.BothTraces.{AreAfter, HasEnded, HasEnds, IsAfter, last_told, step_beside, steps_beside, told_steps, world_under}
+use Rattle.twin_trace.specs.BothTraces.{AreAfter, HasEnded, HasEnds, IsAfter, last_told, state_after, states_beside, step_beside}
+use Rattle.twin_trace.specs.BothTraces.{steps_beside, told_steps, world_under}
 use Rattle.twin_trace.specs.declared.runs.BothRuns.{BothRuns}
 
 -- ---- one run
@@ -119,14 +120,38 @@ module _ (image : Image) (world : World) where
             sym (ap (steps_beside image world taken) all ∙ all-beside taken k (last - k) least over.0 over.1)
       ]
 
-  -- the lines of a step, from those of either run behind an empty text
+  -- what stands beside one another, from the texts of either run behind an empty one
+  both-beside : (x y a b s t old new : List ℕ) → a ≡ [] → b ≡ [] → s ≡ a ++ x → t ≡ b ++ y → new ≡ old ++ side_by_side s t
+      → new ≡ old ++ side_by_side x y
+  both-beside x y a b s t old new none also at32 at64 put =
+      let four = at32 ∙ ap (λ e. e ++ x) none in
+      let eight = at64 ∙ ap (λ e. e ++ y) also in
+      put ∙ (λ i. old ++ side_by_side (four i) (eight i))
+
+  -- the lines of a step
   pub beside-is : (number : ℕ) (a b s t old new : List ℕ) → a ≡ [] → b ≡ [] → s ≡ a ++ lines_of 4 image world number
       → t ≡ b ++ lines_of 8 image world number → new ≡ old ++ side_by_side s t → new ≡ old ++ step_beside image world number
   unfolding step_beside
-  beside-is number a b s t old new none also at32 at64 put =
-      let four = at32 ∙ ap (λ e. e ++ lines_of 4 image world number) none in
-      let eight = at64 ∙ ap (λ e. e ++ lines_of 8 image world number) also in
-      put ∙ (λ i. old ++ side_by_side (four i) (eight i))
+  beside-is number = both-beside (lines_of 4 image world number) (lines_of 8 image world number)
+
+  -- those of the states
+  pub states-are : (taken : ℕ) (a b s t old new : List ℕ) → a ≡ [] → b ≡ [] → s ≡ a ++ state_after 4 image world taken
+      → t ≡ b ++ state_after 8 image world taken → new ≡ old ++ side_by_side s t → new ≡ old ++ states_beside image world taken
+  unfolding states_beside
+  states-are taken = both-beside (state_after 4 image world taken) (state_after 8 image world taken)
+
+  -- no step is past the last one
+  pub steps-capped : (passed last capped : ℕ) → capped ≡ min passed last
+      → steps_beside image world capped last ≡ steps_beside image world passed last
+  steps-capped passed last capped is = elim (cases_lt passed last) as (λ _. steps_beside image world capped last
+      ≡ steps_beside image world passed last) [
+        | inl less ↦ let same : capped ≡ passed = omega (arith, is, less) in ap (λ n. steps_beside image world n last) same
+        | inr past ↦
+            let none : last - passed ≡ 0 = omega (arith, past) in
+            let all : last - capped ≡ 0 = omega (arith, is, past) in
+            ap (λ n. flat_map (step_beside image world) (range_with_len (capped + 1) n)) all
+            ∙ sym (ap (λ n. flat_map (step_beside image world) (range_with_len (passed + 1) n)) none)
+      ]
 
   -- a step more is told
   pub told-more : (taken k : ℕ) (old before after : List ℕ) → taken ≤ k → before ≡ old ++ steps_beside image world taken k

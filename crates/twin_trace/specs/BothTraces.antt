@@ -7,7 +7,7 @@ use Rattle.note_types.specs.declared.ending.Ending.TheVariants.{Running}
 use Rattle.note_types.specs.declared.notes.Notes.{Notes}
 use Rattle.pe_image.specs.declared.image.Image.{Image}
 use Rattle.run_texts.specs.RunTexts.{differ_line, end_line}
-use Rattle.run_trace.specs.Traces.{lines_of}
+use Rattle.run_trace.specs.Traces.{lines_of, state_lines}
 use Rattle.run_trace.specs.declared.telling.Program.{Program}
 use Rattle.side_by_side.specs.SideBySide.{side_by_side}
 use Rattle.twin_run.specs.Differs.{DifferAt}
@@ -39,6 +39,18 @@ told_steps image world first last None = steps_beside image world (first - 1) la
 told_steps image world first last (Some k) =
     steps_beside image world (min (first - 1) (last - 2)) (last - 1) ++ (differ_line (Some k) ++ steps_beside image world (last - 1) last)
 
+-- the lines of the state of the run at a width after so many steps
+abbrev pub state_after : ℕ → Image → World → ℕ → List ℕ
+state_after w image world taken = state_lines world (own_run w image world 0) (own_run w image world taken)
+
+-- the lines of the state at width 32 beside those at width 64
+unfoldable pub states_beside : Image → World → ℕ → List ℕ
+states_beside image world taken = side_by_side (state_after 4 image world taken) (state_after 8 image world taken)
+
+-- the lines of the steps that are told, and those of the states after the last one
+abbrev pub told_lines : Image → World → (first last : ℕ) → (differ : Option ℕ) → List ℕ
+told_lines image world first last differ = told_steps image world first last differ ++ states_beside image world last
+
 -- the last line of a report
 abbrev pub end_of : Notes → RunReport → List ℕ
 end_of notes report = end_line notes report.steps report.spot report.ending
@@ -57,7 +69,7 @@ pub record HasEnds (image : Image) (world : World) (last : ℕ) (old new : List 
 pub record IsBothText (image : Image) (world : World) (first last : ℕ) (text : List ℕ) : Type 0 where
   pub differ : Option ℕ
   pub parts : DifferAt image world last differ
-  pub ends : HasEnds image world (last_told last differ) (told_steps image world first (last_told last differ) differ) text
+  pub ends : HasEnds image world (last_told last differ) (told_lines image world first (last_told last differ) differ) text
 
 -- ---- runners on their way
 

@@ -4,8 +4,9 @@
 //!
 //! - `both`: the text has the lines of the steps of both runs, from the first to the last that is asked for, side by side
 //!   (`step_beside`). Where the runs differ, the step that parts them is the last one, behind the line `differ K`, and the step before
-//!   it is told too (`told_steps`). Then come the last lines of what both runs report up to the last step that is told. Where they
-//!   part is what `twin_run::twin` finds (`IsBothText`). It fails only by want of memory.
+//!   it is told too (`told_steps`). Then come the lines of the states of both after the last step that is told (`states_beside`), and
+//!   the last lines of what both report up to that step. Where they part is what `twin_run::twin` finds (`IsBothText`). It fails only
+//!   by want of memory.
 #![tactic(auto)]
 
 mod runs;

@@ -7,10 +7,10 @@ ghost use Rattle.pe_image.specs.Images.{IsImage};
 ghost use Rattle.pe_image.specs.Mapped.{AreBytes};
 ghost use Rattle.run_trace.specs.Traces.{lines_of};
 ghost use Rattle.run_trace.specs.declared.telling.Program.{Program};
-ghost use Rattle.twin_trace.specs.BothTraces.{AreAfter, HasEnded, IsAfter, step_beside, steps_beside, world_under};
+ghost use Rattle.twin_trace.specs.BothTraces.{AreAfter, HasEnded, IsAfter, states_beside, step_beside, steps_beside, world_under};
 
 use ebc_base::NoMemory;
-use run_trace::{Program, goes_on, tell_step};
+use run_trace::{Program, append_state, goes_on, tell_step};
 use side_by_side::append_beside;
 use std::alloc::Global;
 use twin_run::{Runner, start};
@@ -133,6 +133,33 @@ impl BothRuns {
             self.tell_next(alloc, program, number, out)?;
             number += 1;
         }
+        Ok(())
+    }
+
+    /// Appends the lines of the states of both runs.
+    ///
+    /// # Errors
+    ///
+    /// There is no memory for the text.
+    pub fn append_states(
+        &self,
+        alloc: Global,
+        program: Program,
+        out: &mut Vec<u8>,
+    ) -> Result<(), NoMemory>
+        requires image { IsImage program.image.now }
+        requires bytes { AreBytes program.image.now }
+        requires notes { IsNotes program.notes.now }
+        requires script { IsScript program.notes.now program.script.now }
+        requires after { (taken : ℕ) × AreAfter program taken self.now }
+        ensures { OnOk result ((taken : ℕ) → AreAfter program.entry taken self.now →
+            out.new.items ≡ out.old.items ++ states_beside program.entry.image.now (world_under program.entry) taken) }
+    {
+        let mut at32 = Vec::new(alloc);
+        let mut at64 = Vec::new(alloc);
+        append_state(alloc, program, &self.at4, &mut at32)?;
+        append_state(alloc, program, &self.at8, &mut at64)?;
+        append_beside(at32.as_slice(), at64.as_slice(), out)?;
         Ok(())
     }
 }

@@ -9,7 +9,7 @@ ghost use Rattle.pe_image.specs.Mapped.{AreBytes};
 ghost use Rattle.twin_run.specs.Differs.{DifferAt};
 ghost use Rattle.twin_run.specs.Reported.{IsReport};
 ghost use Rattle.twin_run.specs.declared.reports.RunReport.{RunReport};
-ghost use Rattle.twin_trace.specs.BothTraces.{AreAfter, HasEnds, IsBothText, end_of, last_told, steps_beside, told_steps, world_under};
+ghost use Rattle.twin_trace.specs.BothTraces.{AreAfter, HasEnds, IsBothText, end_of, last_told, steps_beside, told_lines, told_steps, world_under};
 
 use crate::runs::BothRuns;
 use ebc_base::NoMemory;
@@ -64,10 +64,11 @@ fn append_steps(
 ) -> Result<(), NoMemory>
     requires image { IsImage program.image.now }
     requires before { AreAfter program 0 runs.old }
-    ensures after { OnOk result (AreAfter program.entry (max passed last) runs.new) }
+    ensures after { OnOk result (AreAfter program.entry last runs.new) }
     ensures text { OnOk result
         (out.new.items ≡ out.old.items ++ steps_beside program.entry.image.now (world_under program.entry) passed last) }
 {
+    let passed = passed.min(last);
     runs.pass(program, 0, passed);
     runs.tell(alloc, program, passed, last, out)
 }
@@ -85,17 +86,12 @@ fn append_parting(
     requires image { IsImage program.image.now }
     requires some { 0 < last }
     requires before { AreAfter program 0 runs.old }
-    ensures { OnOk result
+    ensures after { OnOk result (AreAfter program.entry last runs.new) }
+    ensures text { OnOk result
         (out.new.items ≡ out.old.items ++ told_steps program.entry.image.now (world_under program.entry) first last (Some steps)) }
 {
-    append_steps(
-        alloc,
-        program,
-        runs,
-        passed_over(first, last),
-        last - 1,
-        out,
-    )?;
+    let passed = passed_over(first, last);
+    append_steps(alloc, program, runs, passed, last - 1, out)?;
     let line = differ_line(alloc, Some(steps))?;
     out.extend_from_slice(line.as_bytes())?;
     runs.tell(alloc, program, last - 1, last, out)
@@ -103,6 +99,29 @@ fn append_parting(
 
 // Appends the lines of the steps that are told, up to the last one.
 fn append_told(
+    alloc: Global,
+    program: Program,
+    runs: &mut BothRuns,
+    first: u64,
+    last: u64,
+    differ: Option<u64>,
+    out: &mut Vec<u8>,
+) -> Result<(), NoMemory>
+    requires image { IsImage program.image.now }
+    requires some { IfSome differ (λ _. 0 < last) }
+    requires before { AreAfter program 0 runs.old }
+    ensures after { OnOk result (AreAfter program.entry last runs.new) }
+    ensures text { OnOk result
+        (out.new.items ≡ out.old.items ++ told_steps program.entry.image.now (world_under program.entry) first last differ) }
+{
+    match differ {
+        None => append_steps(alloc, program, runs, first.saturating_sub(1), last, out),
+        Some(steps) => append_parting(alloc, program, runs, first, last, steps, out),
+    }
+}
+
+// Appends the lines of the steps that are told, up to the last one, and of the states after it.
+fn append_lines(
     alloc: Global,
     program: Program,
     first: u64,
@@ -116,20 +135,11 @@ fn append_told(
     requires script { IsScript program.notes.now program.script.now }
     requires some { IfSome differ (λ _. 0 < last) }
     ensures { OnOk result
-        (out.new.items ≡ out.old.items ++ told_steps program.entry.image.now (world_under program.entry) first last differ) }
+        (out.new.items ≡ out.old.items ++ told_lines program.entry.image.now (world_under program.entry) first last differ) }
 {
     let mut runs = BothRuns::start(alloc, program)?;
-    match differ {
-        None => append_steps(
-            alloc,
-            program,
-            &mut runs,
-            first.saturating_sub(1),
-            last,
-            out,
-        ),
-        Some(steps) => append_parting(alloc, program, &mut runs, first, last, steps, out),
-    }
+    append_told(alloc, program, &mut runs, first, last, differ, out)?;
+    runs.append_states(alloc, program, out)
 }
 
 // The last line of the run at a width up to a last step.
@@ -174,9 +184,9 @@ fn append_ends(
     Ok(())
 }
 
-/// The lines of the steps of an image's runs at both widths, from the first to the last that is asked for, side by side, and the last
-/// lines of both. Where the runs differ the step that parts them is the last one; it is among them, and the one before it, whatever
-/// the first is.
+/// The lines of the steps of an image's runs at both widths, from the first to the last that is asked for, side by side, those of the
+/// states after them, and the last lines of both. Where the runs differ the step that parts them is the last one; it is among them, and
+/// the one before it, whatever the first is.
 ///
 /// # Errors
 ///
@@ -203,7 +213,7 @@ pub fn both(
     let differ = parting(alloc, program, last)?;
     let last = last_told(last, differ);
     let mut out = Vec::new(alloc);
-    append_told(alloc, program, first, last, differ, &mut out)?;
+    append_lines(alloc, program, first, last, differ, &mut out)?;
     append_ends(alloc, program, last, &mut out)?;
     Ok(out)
 }

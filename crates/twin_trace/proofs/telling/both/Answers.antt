@@ -1,11 +1,11 @@
 use Rattle.std.proofs.Common.{◌++◌, ap, ◌∙◌}
 use Rattle.host_model.specs.Runs.{world_of}
-use Rattle.twin_trace.specs.BothTraces.{told_steps}
+use Rattle.twin_trace.specs.BothTraces.{told_lines}
 use Rattle.twin_trace.proofs.BothLaws.{has-ends, some-told}
 use Rattle.twin_trace.proofs.telling.both.Goals as goal
 
-pub append_told-requires : goal.append_told-requires
-append_told-requires c = record {
+pub append_lines-requires : goal.append_lines-requires
+append_lines-requires c = record {
   image = c.requires.image;
   bytes = c.requires.bytes;
   notes = c.requires.notes;
@@ -21,8 +21,8 @@ returns c =
       differ = c.in_ok-differ.differ;
       parts = c.in_ok-differ.ensures;
       ends = has-ends image world _ _ _ _ _ c.last_told-last.ensures
-          (c.in_ok-append_told.ensures
-          ∙ (ap (λ t. t ++ told_steps image world c.args.first c.last_told-last.result c.in_ok-differ.differ) c.new-out.ensures.items
-          ∙ ap (λ l. told_steps image world c.args.first l c.in_ok-differ.differ) c.last_told-last.ensures))
+          (c.in_ok-append_lines.ensures
+          ∙ (ap (λ t. t ++ told_lines image world c.args.first c.last_told-last.result c.in_ok-differ.differ) c.new-out.ensures.items
+          ∙ ap (λ l. told_lines image world c.args.first l c.in_ok-differ.differ) c.last_told-last.ensures))
           c.in_ok-append_ends.ensures;
     }
