@@ -750,10 +750,6 @@ step 10 00001016 main+0x16 MOVqw R0, R0(+1,+0)
   64 R0 00000002000041e8 stack+0x188
 end 10 0000101a running
 .
-whole 'no state at both' 0 both driver.efi driver.notes driver.script 22 22 <<'.'
-step 22 00001044 tick+0x0 MOVIqw R7, 0
-end 22 00001048 running
-.
 driver 'past the end at both' both 33 10000000 <<<'end 32 gate finished status ok 0'
 driver 'a reply that does not fit at both' both 8 1000 wrong.script <<'.'
 step 8 00001016 main+0x16
