@@ -580,6 +580,144 @@ step 21 gate
 end 21 gate finished any
 .
 
+# ---- CALLs that haven't returned
+#
+# The native area of this driver has 1,027 things, and its stack nine times 44 or 56 bytes. So at 32 the stack begins at 0x104040, the image
+# at 0x1041e0 and the object at 0x1071f0. At 64 these are 0x200004040, 0x200004250 and 0x200007260.
+
+lines '.global main' 'main: | MOVRELd R7, cell | BREAK 5 | MOVnw R4, @R0(+1,+16) | CALL32 sub | RET' \
+  'sub: | MOVRELd R5, cell | PUSHn @R5 | CALL32EXa @R4 | MOVqw R0, R0(+1,+0) | RET' 'tick: | CALL32 inner | RET' \
+  'inner: | MOVIqw R7, 0 | RET | .data | cell: .thunk tick' >calls.asm
+printf 'objects = ["calls.obj"]\nentry = "main"\nsubsystem = 11\nbase = 65536\n' >calls.plan
+part() { lines '[[function]]' "name = \"$1\"" "place = $2" "end = $3" "level = $4" 'need = [1, 16]' "params = [$5]" 'result = "any"'; }
+{
+  lines 'version = 1' 'entry = "main"'
+  part main 0x1000 0x1014 1 '"n handle", "n ptr:Sys"'
+  part sub 0x1014 0x1024 0 ''
+  part tick 0x1024 0x102c 1 '"n int:0..4294967295"'
+  echo 'enter = true'
+  part inner 0x102c 0x1032 0 ''
+  lines '[[shape]]' 'name = "Sys"' 'size = [1, 0]' 'fields = ["reg 0 0 method:Register"]'
+  lines '[[signature]]' 'name = "register"' 'method = "Register"' 'params = ["n entry"]' 'result = "status"'
+  lines '[[site]]' 'place = 0x101c' 'signature = "register"' '[[thunk]]' 'place = 0x2000' 'function = "tick"'
+} | sed '/^params/{/\[]/d}' >calls.notes
+{
+  lines 'version = 1' 'args = ["handle 0", "ptr 0 0"]' '[[object]]' 'shape = "Sys"' 'count = 1' 'cells = ["0 reg method Register"]'
+  lines '[[call]]' 'signature = "register"' 'args = ["entry tick"]' 'enter = ["tick int 1"]' 'result = "status ok 0"'
+} >calls.script
+{ "$EBC" asm calls.asm calls.obj >built 2>&1 && "$EBC" link calls.plan calls.efi >built 2>&1; } || fail "calls.asm"$'\n'"$(cat built)"
+
+calls() { whole "$1" 0 "$2" calls.efi calls.notes calls.script "$3" "$3"; }
+calls 'CALLs outside a callback and in it, at 32' 32 11 <<'.'
+step 11 0000102c inner+0x0 MOVIqw R7, 0
+  R7 0000000000000000
+state
+  R0 000000000010417c stack+0x13c
+  R1 0000000000000000
+  R2 0000000000000000
+  R3 0000000000000000
+  R4 00000000001071f0 ptr 0 0
+  R5 00000000001061e0 image+0x2000
+  R6 0000000000000000
+  R7 0000000000000000
+  ip 0000000000105210 inner+0x4
+  C 0
+  back 000000000010520a tick+0x6
+  entered tick 00000000001051fe sub+0xa
+  called 0 register
+  back 00000000001051f2 main+0x12
+  entered main 0000000000100000 gate
+  bytes 00000000001061e0 image+0x2000 ..001000........................
+end 11 00001030 running
+.
+calls 'CALLs outside a callback and in it, at both' both 11 <<'.'
+step 11 0000102c inner+0x0 MOVIqw R7, 0
+  R7 0000000000000000
+state
+  32 R0 000000000010417c stack+0x13c
+  64 R0 00000002000041d8 stack+0x198
+  R1 0000000000000000
+  R2 0000000000000000
+  R3 0000000000000000
+  32 R4 00000000001071f0 ptr 0 0
+  64 R4 0000000200007260 ptr 0 0
+  32 R5 00000000001061e0 image+0x2000
+  64 R5 0000000200006250 image+0x2000
+  R6 0000000000000000
+  R7 0000000000000000
+  32 ip 0000000000105210 inner+0x4
+  64 ip 0000000200005280 inner+0x4
+  C 0
+  32 back 000000000010520a tick+0x6
+  64 back 000000020000527a tick+0x6
+  32 entered tick 00000000001051fe sub+0xa
+  64 entered tick 000000020000526e sub+0xa
+  called 0 register
+  32 back 00000000001051f2 main+0x12
+  64 back 0000000200005262 main+0x12
+  32 entered main 0000000000100000 gate
+  64 entered main 0000000200000000 gate
+  32 bytes 00000000001061e0 image+0x2000 ..001000........................
+  64 bytes 0000000200006250 image+0x2000 ..00000002......................
+end 11 00001030 running
+.
+
+# Of a state only what is open.
+opened() { edited '/^step/d;/^  \(R[0-7]\|C\|ip\|store\|bytes\|return\) /d' "$1" 0 32 "${3:-calls}".efi "${3:-calls}".notes "${3:-calls}".script "$2" "$2"; }
+opened 'once a CALL in a callback has returned' 12 <<'.'
+state
+  entered tick 00000000001051fe sub+0xa
+  called 0 register
+  back 00000000001051f2 main+0x12
+  entered main 0000000000100000 gate
+end 12 0000102a running
+.
+opened 'once a CALL outside a callback has returned' 17 <<'.'
+state
+  entered main 0000000000100000 gate
+end 17 00001012 running
+.
+opened 'once the run with CALLs is over' 1000 <<'.'
+state
+end 19 gate finished any
+.
+
+# The image lies at 0x1040d0.
+built 'main: | CALL32 f | RET | f: CALL32 g | RET | g: RET' 0x1008
+opened 'a CALL in a CALL' 2 i <<'.'
+state
+  back 00000000001050de image+0x100e
+  back 00000000001050d6 main+0x6
+  entered main 0000000000100000 gate
+end 2 00001010 running
+.
+opened 'the inner CALL has returned' 3 i <<'.'
+state
+  back 00000000001050d6 main+0x6
+  entered main 0000000000100000 gate
+end 3 0000100e running
+.
+built 'main: | CALL32 f | RET | f: MOVqw R0, R0(+0,+16) | RET' 0x1008
+opened 'a return address that is dropped' 2 i <<'.'
+state
+  entered main 0000000000100000 gate
+end 2 0000100c running
+.
+built 'main: | CALL32 f | g: RET | f: JMP32 g' 0x1008
+opened 'a jump out of a CALL' 2 i <<'.'
+state
+  back 00000000001050d6 main+0x6
+  entered main 0000000000100000 gate
+end 2 00001006 running
+.
+built 'main: | CALL32EXa R4 | RET' 0x1004
+opened 'a native call is no CALL within the image' 1 i <<'.'
+state
+  asked 00001000
+  entered main 0000000000100000 gate
+end 1 00001002 running
+.
+
 # ---- docs/HOST.md, "A run that parts"
 
 built 'main: | MOVInw R4, (+1,+0) | CMPI64weq R4, 8 | JMP8cc -2 | RET' 0x100c

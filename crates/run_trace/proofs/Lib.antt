@@ -1,5 +1,6 @@
 pub mod ArgumentLaws
 pub mod BeforeLaws
+pub mod CallLaws
 pub mod ChangedLaws
 pub mod OpenedLaws
 pub mod RowLaws
@@ -8,5 +9,6 @@ pub mod PointingLaws
 pub mod RunnerLaws
 pub mod StepLaws
 pub mod StoreLaws
+pub mod ToldLaws
 pub mod TraceLaws
 pub mod WalkLaws

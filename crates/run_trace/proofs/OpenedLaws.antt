@@ -1,10 +1,12 @@
 -- What the frames of a runner's host and its machine hold is what the state of its run holds.
-use Rattle.std.proofs.Common.{◌≡◌, ℕ, zero, suc, ◌+◌, ◌-◌, ◌%◌, ◌^◌, ◌<◌, ◌≤◌, Bool, List, [], ◌∷◌, ◌++◌, length, take, get_or}
-use Rattle.std.proofs.Common.{Option, Some, None, refl, sym, ap, ap₂, ◌∙◌, arith, if◌then◌else◌, reverse}
-use Rattle.std.specs.Prelude.{nat_le}
-use Rattle.std.specs.List.{flat_map}
+use Rattle.std.proofs.Common.{◌≡◌, ℕ, zero, suc, ◌+◌, ◌-◌, ◌%◌, ◌^◌, ◌<◌, ◌≤◌, Bool, false, true, List, [], ◌∷◌, ◌++◌, drop, length, take}
+use Rattle.std.proofs.Common.{Option, Some, None, refl, sym, ap, ◌∙◌, append_assoc, arith, cond, get_or, if◌then◌else◌, reverse}
+use Rattle.std.specs.Prelude.{nat_eq, nat_le}
+use Rattle.std.specs.List.{filter, flat_map}
 use Rattle.std.proofs.lemmas.Bool.{eq-eqb, ne_eqb}
-use Rattle.std.proofs.lemmas.List.{flat_map_more, get_or-map, get_or-reverse, length-map, length-reverse, take_all, take_more}
+use Rattle.std.proofs.lemmas.List.{append-nil, drop_all, drop_more, flat_map_more, get_or-map, get_or-reverse, length-drop}
+use Rattle.std.proofs.lemmas.List.{length-reverse, take_all, take_more}
+use Rattle.std.proofs.lemmas.List.Elements.{filter-append}
 use Rattle.std.proofs.lemmas.Option.{slice_get-get_or}
 use Rattle.ebc_width.specs.Bytes.{little_endian}
 use Rattle.ebc_width.specs.Ranges.{Range}
@@ -16,13 +18,17 @@ use Rattle.host_model.specs.Progress.{Accepted, NoCall}
 use Rattle.host_model.specs.RunState.{RunState, SavedFrame}
 use Rattle.note_types.specs.declared.notes.Notes.{Notes}
 use Rattle.note_types.specs.declared.script.Script.{Script}
-use Rattle.step_texts.specs.StateTexts.{open_lines}
+use Rattle.step_texts.specs.StateTexts.{back_line, call_line, function_line}
 use Rattle.step_texts.specs.declared.state.OpenCall.{OpenCall}
+use Rattle.step_texts.specs.declared.state.OpenFunction.{OpenFunction}
 use Rattle.step_texts.specs.declared.step.Change.{Change}
 use Rattle.twin_run.specs.Runner.{hosts_of}
 use Rattle.twin_run.specs.Watching.{has_c}
 use Rattle.twin_run.specs.declared.runner.AskedCall.{AskedCall}
-use Rattle.run_trace.specs.States.{accepted_of, held, holdings_of, open_of, opened_lines, registers_held, saved_with, under_way}
+use Rattle.twin_run.proofs.BoundLaws.{hosts_count}
+use Rattle.run_trace.specs.States.{accepted_of, back_lines, frame_lines, frames_lines, held, holdings_of, open_of, opened_lines}
+use Rattle.run_trace.specs.States.{registers_held, saved_with, under_way}
+use Rattle.run_trace.specs.declared.calls.InnerCall.{InnerCall}
 
 -- ---- the machine
 
@@ -70,30 +76,62 @@ accepted-under-way script f entry call same some is =
 
 -- ---- the function of a frame
 
-pub open-is : (notes : Notes) (script : Script) (objects : List Range) (asked : Option AskedCall) (f : Frame) (func ip number : ℕ)
-    (notified : Bool) (back : Change) (call : Option OpenCall) → func ≡ f.func → ip ≡ f.ip → number ≡ func % 2 ^ 31
-    → notified ≡ nat_le (2 ^ 31) func → back ≡ held notes objects ip → call ≡ under_way script (saved_with asked f).call
-    → record { function = number; notified = notified; back = back; call = call } ≡ open_of notes script objects (saved_with asked f)
+pub open-is : (notes : Notes) (objects : List Range) (f : Frame) (func ip number : ℕ) (notified : Bool) (back : Change)
+    → func ≡ f.func → ip ≡ f.ip → number ≡ func % 2 ^ 31 → notified ≡ nat_le (2 ^ 31) func → back ≡ held notes objects ip
+    → record { function = number; notified = notified; back = back } ≡ open_of notes objects (saved_of f)
 unfolding saved_of
-open-is notes script objects None f func ip number notified back call is at numbered known goes_on calls = λ i. record {
+open-is notes objects f func ip number notified back is at numbered known goes_on = λ i. record {
   function = (numbered ∙ ap (λ n. n % 2 ^ 31) is) i;
   notified = (known ∙ ap (nat_le (2 ^ 31)) is) i;
   back = (goes_on ∙ ap (held notes objects) at) i;
-  call = calls i;
 }
-open-is notes script objects (Some a) f func ip number notified back call is at numbered known goes_on calls = λ i. record {
-  function = (numbered ∙ ap (λ n. n % 2 ^ 31) is) i;
-  notified = (known ∙ ap (nat_le (2 ^ 31)) is) i;
-  back = (goes_on ∙ ap (held notes objects) at) i;
-  call = calls i;
-}
+
+-- the function of a frame doesn't depend on whether a native call is asked for above it
+open-with : (notes : Notes) (objects : List Range) (asked : Option AskedCall) (f : Frame)
+    → open_of notes objects (saved_of f) ≡ open_of notes objects (saved_with asked f)
+open-with notes objects None f = refl
+open-with notes objects (Some a) f = refl
+
+-- ---- the CALLs in a function, from the last one on
+
+pub backs-more : {A : Type 0} (line : A → List ℕ) (p : A → Bool) (xs : List A) (above : ℕ) (d : A) (old before after : List ℕ)
+    → above < length xs → before ≡ old ++ flat_map line (filter p (take above (reverse xs)))
+    → (p (get_or xs (length xs - 1 - above) d) ≡ true → after ≡ before ++ line (get_or xs (length xs - 1 - above) d))
+    → (p (get_or xs (length xs - 1 - above) d) ≡ false → after ≡ before)
+    → after ≡ old ++ flat_map line (filter p (take (above + 1) (reverse xs)))
+backs-more {A = A} line p xs above d old before after less was put skips =
+    let x : A = get_or xs (length xs - 1 - above) d in
+    let long = length-reverse xs in
+    let within : above < length (reverse xs) = omega (arith, less, long) in
+    let chosen : filter p (take (above + 1) (reverse xs)) ≡ filter p (take above (reverse xs)) ++ filter p (x ∷ []) =
+    ap (filter p) (take_more (reverse xs) above d within ∙ ap (λ y. take above (reverse xs) ++ y ∷ []) (get_or-reverse xs above d less))
+    ∙ filter-append p (take above (reverse xs)) (x ∷ []) in
+    go x (p x) refl put skips chosen
+  where
+    go : (x : A) (b : Bool) → p x ≡ b → (p x ≡ true → after ≡ before ++ line x) → (p x ≡ false → after ≡ before)
+        → filter p (take (above + 1) (reverse xs)) ≡ filter p (take above (reverse xs)) ++ cond (p x) (x ∷ []) []
+        → after ≡ old ++ flat_map line (filter p (take (above + 1) (reverse xs)))
+    go x true does put skips chosen =
+        put does ∙ ap (λ t. t ++ line x) was ∙ flat_map_more line old (filter p (take above (reverse xs))) x
+        ∙ ap (λ t. old ++ flat_map line t) (sym (chosen ∙ ap (λ b. filter p (take above (reverse xs)) ++ cond b (x ∷ []) []) does))
+    go x false isnt put skips chosen =
+        skips isnt ∙ was ∙ ap (λ t. old ++ flat_map line t)
+        (sym (chosen ∙ ap (λ b. filter p (take above (reverse xs)) ++ cond b (x ∷ []) []) isnt
+        ∙ append-nil (filter p (take above (reverse xs)))))
+
+pub backs-are : (notes : Notes) (objects : List Range) (calls : List InnerCall) (depth above : ℕ) (old after : List ℕ)
+    → length calls ≤ above
+    → after ≡ old ++ flat_map (λ (c : InnerCall). back_line notes (held notes objects c.back))
+    (filter (λ c. nat_eq c.entered depth) (take above (reverse calls)))
+    → after ≡ old ++ back_lines notes objects calls depth
+unfolding back_lines
+backs-are notes objects calls depth above old after past is =
+    let long = length-reverse calls in
+    is ∙ ap (λ cs. old ++ flat_map (λ (c : InnerCall). back_line notes (held notes objects c.back))
+    (filter (λ c. nat_eq c.entered depth) cs))
+    (take_all above (reverse calls) (omega (arith, past, long)))
 
 -- ---- one frame after the other, from the top one on
-
-length-hosts : (asked : Option AskedCall) (frames : List Frame) → length (hosts_of asked frames) ≡ length frames
-length-hosts None frames = length-map frames saved_of
-length-hosts (Some a) [] = refl
-length-hosts (Some a) (f ∷ fs) = ap suc (length-map fs saved_of)
 
 -- a native call is asked for above the top frame alone
 host-at : (asked here : Option AskedCall) (g : Frame) (fs : List Frame) (above : ℕ) → above < length (g ∷ fs)
@@ -117,32 +155,61 @@ frame-below g fs above below less is =
     slice_get-get_or (reverse (g ∷ fs)) below g (omega (arith, many, within))
     ∙ ap Some (get_or-reverse (g ∷ fs) below g within ∙ ap (λ k. get_or (g ∷ fs) k g) there)
 
-pub opened-more : (lines_of : SavedFrame → List ℕ) (asked here : Option AskedCall) (frames : List Frame) (depth above below : ℕ)
-    (lines old before after : List ℕ) → depth ≡ length frames → above < depth → below + 1 + above ≡ depth → (above ≡ 0 → here ≡ asked)
-    → (0 < above → here ≡ None) → ((f : Frame) → from_bottom frames below ≡ Some f → lines ≡ lines_of (saved_with here f))
-    → before ≡ old ++ flat_map lines_of (take above (hosts_of asked frames)) → after ≡ before ++ lines
-    → after ≡ old ++ flat_map lines_of (take (above + 1) (hosts_of asked frames))
-opened-more lines_of asked here [] depth above below lines old before after many less is top lower told was now =
-    absurd (omega (arith, many, less))
-opened-more lines_of asked here (g ∷ fs) depth above below lines old before after many less is top lower told was now =
-    let hosts = hosts_of asked (g ∷ fs) in
+-- one frame more
+pub opened-more : (notes : Notes) (script : Script) (objects : List Range) (calls : List InnerCall) (asked here : Option AskedCall)
+    (frames : List Frame) (depth above below : ℕ) (call : Option OpenCall) (function : OpenFunction)
+    (old before with_call with_backs after : List ℕ)
+    → depth ≡ length frames → above < depth → below + 1 + above ≡ depth → (above ≡ 0 → here ≡ asked)
+    → (0 < above → here ≡ None)
+    → ((f : Frame) → from_bottom frames below ≡ Some f → call ≡ under_way script (saved_with here f).call)
+    → ((f : Frame) → from_bottom frames below ≡ Some f → function ≡ open_of notes objects (saved_of f))
+    → before ++ frames_lines notes script objects calls (drop above (hosts_of asked frames))
+    ≡ old ++ frames_lines notes script objects calls (hosts_of asked frames)
+    → with_call ≡ before ++ call_line notes call → with_backs ≡ with_call ++ back_lines notes objects calls (depth - above)
+    → after ≡ with_backs ++ function_line notes function
+    → after ++ frames_lines notes script objects calls (drop (above + 1) (hosts_of asked frames))
+    ≡ old ++ frames_lines notes script objects calls (hosts_of asked frames)
+unfolding frames_lines frame_lines
+opened-more notes script objects calls asked here [] depth above below call function old before with_call with_backs after many less is
+    top lower calls_is opened was first second third = absurd (omega (arith, many, less))
+opened-more notes script objects calls asked here (g ∷ fs) depth above below call function old before with_call with_backs after many
+    less is top lower calls_is opened was first second third =
+    let hosts : List SavedFrame = hosts_of asked (g ∷ fs) in
+    let f : Frame = get_or (g ∷ fs) above g in
     let within : above < length (g ∷ fs) = omega (arith, many, less) in
-    let same = length-hosts asked (g ∷ fs) in
-    let line_is = told (get_or (g ∷ fs) above g) (frame-below g fs above below within (is ∙ many))
-    ∙ ap lines_of (sym (host-at asked here g fs above within top lower)) in
-    now ∙ ap₂ (λ b l. b ++ l) was line_is
-    ∙ flat_map_more lines_of old (take above hosts) (get_or hosts above (saved_of g))
-    ∙ ap (λ hs. old ++ flat_map lines_of hs) (sym (take_more hosts above (saved_of g) (omega (arith, within, same))))
+    let same = hosts_count asked (g ∷ fs) in
+    let inside : above < length hosts = omega (arith, within, same) in
+    let found = frame-below g fs above below within (is ∙ many) in
+    let host : SavedFrame = get_or hosts above (saved_of g) in
+    let rest : List SavedFrame = drop (above + 1) hosts in
+    let host-is : host ≡ saved_with here f = host-at asked here g fs above within top lower in
+    let next : drop above hosts ≡ host ∷ rest = drop_more hosts above (saved_of g) inside in
+    let long : depth - above ≡ length (host ∷ rest) =
+    ap (λ n. n - above) (many ∙ sym same) ∙ sym (length-drop above hosts) ∙ ap length next in
+    let call-is : call ≡ under_way script host.call = calls_is f found ∙ ap (λ (s : SavedFrame). under_way script s.call) (sym host-is) in
+    let function-is : function ≡ open_of notes objects host =
+    opened f found ∙ open-with notes objects here f ∙ ap (open_of notes objects) (sym host-is) in
+    let a : List ℕ = call_line notes (under_way script host.call) in
+    let b : List ℕ = back_lines notes objects calls (length (host ∷ rest)) in
+    let c : List ℕ = function_line notes (open_of notes objects host) in
+    let all : List ℕ = frames_lines notes script objects calls rest in
+    let put : after ≡ before ++ (a ++ (b ++ c)) =
+    third ∙ ap (λ t. t ++ function_line notes function) (second ∙ ap (λ t. t ++ back_lines notes objects calls (depth - above)) first)
+    ∙ (λ i. ((before ++ call_line notes (call-is i)) ++ back_lines notes objects calls (long i)) ++ function_line notes (function-is i))
+    ∙ append_assoc (before ++ a) b c ∙ append_assoc before a (b ++ c) in
+    ap (λ t. t ++ all) put ∙ append_assoc before (a ++ (b ++ c)) all
+    ∙ ap (λ l. before ++ frames_lines notes script objects calls l) (sym next) ∙ was
 
-pub opened-all : (notes : Notes) (script : Script) (s : RunState) (objects : List Range) (asked : Option AskedCall) (frames : List Frame)
-    (depth above : ℕ) (old new : List ℕ) → depth ≡ length frames → depth ≤ above → objects ≡ s.machine.objects
+pub opened-all : (notes : Notes) (script : Script) (s : RunState) (objects : List Range) (calls : List InnerCall) (asked : Option AskedCall)
+    (frames : List Frame) (depth above : ℕ) (old after : List ℕ) → depth ≡ length frames → depth ≤ above → objects ≡ s.machine.objects
     → hosts_of asked frames ≡ s.hosts
-    → new ≡ old ++ flat_map (λ f. open_lines notes (open_of notes script objects f)) (take above (hosts_of asked frames))
-    → new ≡ old ++ opened_lines notes script s
-unfolding opened_lines
-opened-all notes script s objects asked frames depth above old new many past lie are is =
-    let same = length-hosts asked frames in
-    is
-    ∙ ap (λ hs. old ++ flat_map (λ f. open_lines notes (open_of notes script objects f)) hs)
-    (take_all above (hosts_of asked frames) (omega (arith, many, past, same)))
-    ∙ (λ i. old ++ flat_map (λ f. open_lines notes (open_of notes script (lie i) f)) (are i))
+    → after ++ frames_lines notes script objects calls (drop above (hosts_of asked frames))
+    ≡ old ++ frames_lines notes script objects calls (hosts_of asked frames)
+    → after ≡ old ++ opened_lines notes script calls s
+unfolding frames_lines
+opened-all notes script s objects calls asked frames depth above old after many past lie are was =
+    let same = hosts_count asked frames in
+    sym (append-nil after)
+    ∙ ap (λ hs. after ++ frames_lines notes script objects calls hs)
+    (sym (drop_all above (hosts_of asked frames) (omega (arith, many, past, same))))
+    ∙ was ∙ (λ i. old ++ frames_lines notes script (lie i) calls (are i))

@@ -17,7 +17,7 @@ use Rattle.step_texts.specs.declared.step.Change.{Change}
 
 -- ---- ranges
 
-range-more : (a n : ℕ) → range_with_len a (suc n) ≡ range_with_len a n ++ (a + n) ∷ []
+pub range-more : (a n : ℕ) → range_with_len a (suc n) ≡ range_with_len a n ++ (a + n) ∷ []
 range-more a zero = ap (λ k. k ∷ []) (sym (add-zero a))
 range-more a (suc n) =
     let next : a + 1 + n ≡ a + suc n = omega arith in

@@ -1,5 +1,7 @@
 pub mod Addresses
+pub mod Calls
 pub mod Changes
+pub mod Following
 pub mod Pointed
 pub mod States
 pub mod Steps

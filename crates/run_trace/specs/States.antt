@@ -1,6 +1,6 @@
 -- For proofs: what a run holds between two steps: docs/TRACE.md, "The state at the end".
-use Rattle.std.specs.Prelude.{ℕ, List, Option, Some, None, map, option_map, slice_get, slice_index}
-use Rattle.std.specs.List.{flat_map, range_with_len}
+use Rattle.std.specs.Prelude.{ℕ, List, [], ◌∷◌, ◌++◌, Option, Some, None, length, map, nat_eq, option_map, reverse, slice_get, slice_index}
+use Rattle.std.specs.List.{filter, flat_map, range_with_len}
 use Rattle.ebc_width.specs.Ranges.{Range}
 use Rattle.callex_thunk.specs.HostFrames.{saved_of}
 use Rattle.frame_stack.specs.declared.Frame.{Frame}
@@ -9,7 +9,7 @@ use Rattle.host_model.specs.RunState.{RunState, SavedFrame}
 use Rattle.note_types.specs.declared.notes.Notes.{Notes}
 use Rattle.note_types.specs.declared.script.Script.{Script}
 use Rattle.note_types.specs.declared.script.ScriptCall.{ScriptCall}
-use Rattle.step_texts.specs.StateTexts.{open_lines}
+use Rattle.step_texts.specs.StateTexts.{back_line, call_line, function_line}
 use Rattle.step_texts.specs.declared.state.Holdings.{Holdings}
 use Rattle.step_texts.specs.declared.state.OpenCall.{OpenCall}
 use Rattle.step_texts.specs.declared.state.OpenCall.TheVariants as calls
@@ -18,6 +18,7 @@ use Rattle.step_texts.specs.declared.step.Change.{Change}
 use Rattle.twin_run.specs.Watching.{has_c}
 use Rattle.twin_run.specs.declared.runner.AskedCall.{AskedCall}
 use Rattle.run_trace.specs.Addresses.{meaning_at}
+use Rattle.run_trace.specs.declared.calls.InnerCall.{InnerCall}
 
 -- ---- the machine
 
@@ -55,14 +56,26 @@ saved_with None f = saved_of f
 saved_with (Some a) f = record (saved_of f) { call = Asked a.place a.target }
 
 -- the function of a frame: the run goes on at the address that the frame has kept once it has returned
-abbrev pub open_of : Notes → Script → List Range → SavedFrame → OpenFunction
-open_of notes script objects f = record {
-  function = f.func;
-  notified = f.notified;
-  back = held notes objects f.ip;
-  call = under_way script f.call;
-}
+abbrev pub open_of : Notes → List Range → SavedFrame → OpenFunction
+open_of notes objects f = record { function = f.func; notified = f.notified; back = held notes objects f.ip }
 
--- the functions that the host entered and hasn't left, the last one first
-unfoldable pub opened_lines : Notes → Script → RunState → List ℕ
-opened_lines notes script s = flat_map (λ f. open_lines notes (open_of notes script s.machine.objects f)) s.hosts
+-- the lines of the CALLs that were done while so many functions of the host were open, the last one first
+unfoldable pub back_lines : Notes → List Range → List InnerCall → ℕ → List ℕ
+back_lines notes objects calls depth =
+    flat_map (λ (c : InnerCall). back_line notes (held notes objects c.back)) (filter (λ c. nat_eq c.entered depth) (reverse calls))
+
+-- the lines of a frame, which with those below it is one of so many: of the native call above it, of the CALLs in its function, and of
+-- the function
+unfoldable pub frame_lines : Notes → Script → List Range → List InnerCall → ℕ → SavedFrame → List ℕ
+frame_lines notes script objects calls depth f =
+    call_line notes (under_way script f.call) ++ (back_lines notes objects calls depth ++ function_line notes (open_of notes objects f))
+
+-- those of frames, the last one first
+unfoldable pub frames_lines : Notes → Script → List Range → List InnerCall → List SavedFrame → List ℕ
+frames_lines notes script objects calls [] = []
+frames_lines notes script objects calls (f ∷ fs) =
+    frame_lines notes script objects calls (length (f ∷ fs)) f ++ frames_lines notes script objects calls fs
+
+-- what the host entered and the image called, and hasn't returned
+abbrev pub opened_lines : Notes → Script → List InnerCall → RunState → List ℕ
+opened_lines notes script calls s = frames_lines notes script s.machine.objects calls s.hosts

@@ -12,7 +12,8 @@ ghost use Rattle.note_types.specs.declared.ending.Ending.TheVariants.{Running};
 ghost use Rattle.twin_run.specs.Runner.{IsRunner, Runs};
 ghost use Rattle.run_trace.specs.Stores.{stored_by};
 ghost use Rattle.run_trace.specs.Walks.{RunsImage};
-ghost use Rattle.run_trace.specs.Steps.{before_of, bytes_of, change, flag_change, insn_of, laid, next_insn, register_changes, step_of, stored_in};
+ghost use Rattle.run_trace.specs.Steps.{before_of, bytes_of, change, flag_change, insn_of, laid, next_insn, register_changes};
+ghost use Rattle.run_trace.specs.Steps.{step_of, stored_in};
 
 use crate::stores::{StoreRange, stored_by};
 use crate::walking::meaning_at;
@@ -191,7 +192,8 @@ impl Before {
         requires width { IsWidth W }
         requires runs { Runs W notes.now script.now runner.now }
         requires running { runner.now.ending ≡ Running }
-        ensures before { (world : World) (r : RunState) → world.script ≡ script.now → IsRunner W world runner.now r → result ≡ before_of W world r }
+        ensures before { (world : World) (r : RunState) → world.script ≡ script.now → IsRunner W world runner.now r
+            → result ≡ before_of W world r }
         ensures well_formed { IfSome result.insn WellFormed }
         ensures few { IfSome result.store (λ range. range.size ≤ 16) }
     {
@@ -213,7 +215,8 @@ impl Before {
         requires few { IfSome self.now.store (λ range. range.size ≤ 16) }
         requires runs { RunsImage W runner.now }
         requires statics { length notes.now.statics < 2 ^ 32 }
-        ensures step { (world : World) (r s : RunState) → world.notes ≡ notes.now → self.now ≡ before_of W world r → IsRunner W world runner.now s → result ≡ step_of W world number r s }
+        ensures step { (world : World) (r s : RunState) → world.notes ≡ notes.now → self.now ≡ before_of W world r
+            → IsRunner W world runner.now s → result ≡ step_of W world number r s }
         ensures insn { result.insn ≡ self.now.insn }
     {
         Step {

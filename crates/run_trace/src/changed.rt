@@ -1,5 +1,6 @@
 //! The bytes of a run's objects that are others than at its start.
-ghost use Rattle.std.specs.Prelude.{◌≡◌, ◌+◌, ◌^◌, ◌<◌, ◌≤◌, ◌++◌, IfOk, OnOk, false, length, nat_eq, not, slice_index, slice_index_or, true};
+ghost use Rattle.std.specs.Prelude.{◌≡◌, ◌+◌, ◌^◌, ◌<◌, ◌≤◌, ◌++◌, IfOk, OnOk, false, length, nat_eq, not, true};
+ghost use Rattle.std.specs.Prelude.{slice_index, slice_index_or};
 ghost use Rattle.step_texts.specs.RowTexts.{row_line};
 ghost use Rattle.ebc_width.specs.Width.{IsWidth};
 ghost use Rattle.host_model.specs.RunState.{RunState};
@@ -82,7 +83,8 @@ fn append_if_changed(
     ensures count_same { rows_differ before.now row.now ≡ false → IfOk result (λ n. n ≡ rows) }
     ensures count_more { rows_differ before.now row.now ≡ true → IfOk result (λ n. n ≡ rows + 1) }
     ensures same { rows_differ before.now row.now ≡ false → out.new ≡ out.old }
-    ensures told { rows_differ before.now row.now ≡ true → rows < 8 → OnOk result (out.new.items ≡ out.old.items ++ row_line notes.now place before.now row.now) }
+    ensures told { rows_differ before.now row.now ≡ true → rows < 8 → OnOk result
+        (out.new.items ≡ out.old.items ++ row_line notes.now place before.now row.now) }
     ensures more { rows_differ before.now row.now ≡ true → 8 ≤ rows → out.new ≡ out.old }
 {
     if !rows_differ(before, row) {

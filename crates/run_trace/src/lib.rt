@@ -8,14 +8,15 @@
 //!   (`meaning_at`). Below a native call stands what its arguments point to (`pointed_lines`). Last come the lines of the state
 //!   after these steps (`state_lines`). What is reported is what `twin_run::run` reports up to that last step (`report`). It fails
 //!   only by want of memory.
-//! - `tell_step`: takes the next step of a run of an image that goes on, and appends its lines (`text`); the runner is where the run
-//!   is after it (`step`), and counts it (`counted`). `goes_on`: whether the run of a runner does. `Program`: plain data.
-//! - `append_state`: appends the lines of the state of a run, by its state at the start (`state_lines`).
+//! - `TracedRun`: a run on its way, with the CALLs that haven't returned (`IsAfter`). `start` begins it. `step` takes the next step, and
+//!   `tell_step` appends its lines too (`lines_of`). `append_state` appends the lines of its state (`state_after`). `goes_on`: whether it
+//!   does. They fail only by want of memory. `Program`: plain data.
 //! - `steps_tell_stores`: an instruction of a run changes no byte but those that are told of its step (`StepsTellStores`).
 #![tactic(auto)]
 
 mod addresses;
 mod before;
+mod calls;
 mod changed;
 mod holding;
 mod laws;
@@ -23,7 +24,9 @@ mod opened;
 mod pointing;
 mod stores;
 mod telling;
+mod traced;
 mod walking;
 
 pub use laws::steps_tell_stores;
-pub use telling::{Program, append_state, goes_on, tell_step, trace};
+pub use telling::{Program, trace};
+pub use traced::TracedRun;

@@ -1,5 +1,5 @@
-//! The functions that the firmware entered and that haven't returned.
-ghost use Rattle.std.specs.Prelude.{◌≡◌, ◌^◌, ◌<◌, ◌++◌, None, OnOk, Some, length};
+//! The functions that the firmware entered, the CALLs in them and the native calls: those that haven't returned.
+ghost use Rattle.std.specs.Prelude.{◌≡◌, ◌^◌, ◌<◌, ◌++◌, None, OnOk, Some, false, length, nat_eq, true};
 ghost use Rattle.ebc_width.specs.Width.{IsWidth};
 ghost use Rattle.object_memory.specs.Memory.{ranges};
 ghost use Rattle.callex_thunk.specs.HostFrames.{saved_of};
@@ -8,15 +8,17 @@ ghost use Rattle.frame_stack.specs.declared.Frame.{Frame};
 ghost use Rattle.host_model.specs.RunState.{RunState};
 ghost use Rattle.host_model.specs.World.{World};
 ghost use Rattle.twin_run.specs.Runner.{IsRunner};
-ghost use Rattle.run_trace.specs.States.{accepted_of, open_of, opened_lines, saved_with, under_way};
+ghost use Rattle.step_texts.specs.StateTexts.{back_line};
+ghost use Rattle.run_trace.specs.States.{accepted_of, back_lines, held, open_of, opened_lines, saved_with, under_way};
 ghost use Rattle.run_trace.specs.Walks.{RunsImage};
 
+use crate::calls::InnerCall;
 use crate::holding::held;
 use callex_thunk::NO_ENTRY;
 use frame_stack::{FRAME_BYTES, FRAMES, FrameStack};
 use note_types::{NoMemory, Notes, Script};
 use std::alloc::Global;
-use step_texts::{OpenCall, OpenFunction, append_open};
+use step_texts::{OpenCall, OpenFunction, append_back, append_open_call, append_open_function};
 use twin_run::{AskedCall, Runner};
 
 // Where fields lie from the first byte of a frame on (docs/crates/frame_stack.md).
@@ -93,12 +95,10 @@ fn asked_above(asked: Option<AskedCall>, above: usize) -> Option<AskedCall>
     if above == 0 { asked } else { None }
 }
 
-// The function of a frame, which has so many frames below it, with the native call that is asked for above it.
+// The function of a frame, which has so many frames below it.
 fn opened<const W: usize>(
     runner: &Runner<W>,
     notes: &Notes,
-    script: &Script,
-    asked: Option<AskedCall>,
     frames: &FrameStack,
     below: usize,
 ) -> OpenFunction
@@ -106,19 +106,61 @@ fn opened<const W: usize>(
     requires runs { RunsImage W runner.now }
     requires statics { length notes.now.statics < 2 ^ 32 }
     requires frame { below < FRAMES }
-    ensures { (f : Frame) → from_bottom frames.now below ≡ Some f
-        → result ≡ open_of notes.now script.now (ranges runner.now.mem) (saved_with asked f) }
+    ensures { (f : Frame) → from_bottom frames.now below ≡ Some f → result ≡ open_of notes.now (ranges runner.now.mem) (saved_of f) }
 {
     let function = function_of(frames, below);
     OpenFunction {
         function: u64::from(function % NOTIFIED),
         notified: NOTIFIED <= function,
         back: held(runner, notes, saved_ip(frames, below)),
-        call: under_way(script, asked, entry_of(frames, below)),
     }
 }
 
-/// Appends the lines of the functions that the firmware entered and that haven't returned, the last one first.
+// Appends the line of a CALL, if it was done while so many functions of the host were open.
+fn append_back_in<const W: usize>(
+    alloc: Global,
+    notes: &Notes,
+    runner: &Runner<W>,
+    call: InnerCall,
+    depth: usize,
+    out: &mut Vec<u8>,
+) -> Result<(), NoMemory>
+    requires width { IsWidth W }
+    requires runs { RunsImage W runner.now }
+    requires statics { length notes.now.statics < 2 ^ 32 }
+    ensures there { nat_eq call.entered depth ≡ true → OnOk result
+        (out.new.items ≡ out.old.items ++ back_line notes.now (held notes.now (ranges runner.now.mem) call.back)) }
+    ensures elsewhere { nat_eq call.entered depth ≡ false → out.new ≡ out.old }
+{
+    if call.entered == depth {
+        return append_back(alloc, notes, held(runner, notes, call.back), out);
+    }
+    Ok(())
+}
+
+// Appends the lines of the CALLs that were done while so many functions of the host were open, the last one first.
+fn append_backs<const W: usize>(
+    alloc: Global,
+    notes: &Notes,
+    runner: &Runner<W>,
+    calls: &[InnerCall],
+    depth: usize,
+    out: &mut Vec<u8>,
+) -> Result<(), NoMemory>
+    requires width { IsWidth W }
+    requires runs { RunsImage W runner.now }
+    requires statics { length notes.now.statics < 2 ^ 32 }
+    ensures { OnOk result (out.new.items ≡ out.old.items ++ back_lines notes.now (ranges runner.now.mem) calls.now depth) }
+{
+    let count = calls.len();
+    for above in 0..count {
+        let call = calls[count - 1 - above];
+        append_back_in(alloc, notes, runner, call, depth, out)?;
+    }
+    Ok(())
+}
+
+/// Appends the lines of what the firmware entered and the image called and what hasn't returned, the last one first.
 ///
 /// # Errors
 ///
@@ -128,20 +170,23 @@ pub(crate) fn append_opened<const W: usize>(
     notes: &Notes,
     script: &Script,
     runner: &Runner<W>,
+    calls: &[InnerCall],
     out: &mut Vec<u8>,
 ) -> Result<(), NoMemory>
     requires width { IsWidth W }
     requires runs { RunsImage W runner.now }
     requires statics { length notes.now.statics < 2 ^ 32 }
     ensures { OnOk result ((world : World) (s : RunState) → IsRunner W world runner.now s
-        → out.new.items ≡ out.old.items ++ opened_lines notes.now script.now s) }
+        → out.new.items ≡ out.old.items ++ opened_lines notes.now script.now calls.now s) }
 {
     let (asked, frames) = runner.frames();
     let depth = frames.depth();
     for above in 0..depth {
-        let asked_here = asked_above(asked, above);
-        let function = opened(runner, notes, script, asked_here, frames, depth - 1 - above);
-        append_open(alloc, notes, &function, out)?;
+        let below = depth - 1 - above;
+        let call = under_way(script, asked_above(asked, above), entry_of(frames, below));
+        append_open_call(alloc, notes, call, out)?;
+        append_backs(alloc, notes, runner, calls, depth - above, out)?;
+        append_open_function(alloc, notes, &opened(runner, notes, frames, below), out)?;
     }
     Ok(())
 }

@@ -9,7 +9,8 @@ ghost use Rattle.host_model.specs.Objects.{made_objects, objects_of, placed_obje
 ghost use Rattle.note_types.specs.Concrete.{rest_from};
 ghost use Rattle.pe_image.specs.Images.{IsImage};
 ghost use Rattle.pe_image.specs.declared.image.Image.{Image};
-ghost use Rattle.run_trace.specs.Pointed.{argument_line, arguments_lines, base_of, bytes_of, cells_of, event_lines, instance_line, object_at, of_64_bits, pointed_lines, size_of};
+ghost use Rattle.run_trace.specs.Pointed.{argument_line, arguments_lines, base_of, bytes_of, cells_of, event_lines, instance_line};
+ghost use Rattle.run_trace.specs.Pointed.{object_at, of_64_bits, pointed_lines, size_of};
 ghost use Rattle.run_trace.specs.Walks.{RunsImage};
 
 use crate::telling::Program;
@@ -231,7 +232,8 @@ fn bytes_of<'a, const W: usize>(
     requires width { IsWidth W }
     requires runs { RunsImage W runner.now }
     ensures { (image : Image) (world : World) (s : RunState) → IsImage image → world.image_size ≡ image.size
-        → IsRunner W world runner.now s → option_map (λ bytes. bytes.now) result ≡ bytes_of W notes.now s.machine shape.now count object instance }
+        → IsRunner W world runner.now s
+        → option_map (λ bytes. bytes.now) result ≡ bytes_of W notes.now s.machine shape.now count object instance }
 {
     let size = size_of::<W>(shape);
     let Some(at) = object_at(runner, notes, object) else {
@@ -255,7 +257,8 @@ fn append_instance<const W: usize>(
 ) -> Result<(), NoMemory>
     requires width { IsWidth W }
     requires runs { RunsImage W runner.now }
-    ensures { OnOk result ((image : Image) (world : World) (s : RunState) → world.notes ≡ program.entry.notes.now → world.script ≡ program.entry.script.now
+    ensures { OnOk result ((image : Image) (world : World) (s : RunState)
+        → world.notes ≡ program.entry.notes.now → world.script ≡ program.entry.script.now
         → IsImage image → world.image_size ≡ image.size → IsRunner W world runner.now s
         → out.new.items ≡ out.old.items ++ instance_line W world s.machine argument object instance) }
 {
@@ -283,7 +286,8 @@ fn append_argument<const W: usize>(
 ) -> Result<(), NoMemory>
     requires width { IsWidth W }
     requires runs { RunsImage W runner.now }
-    ensures { OnOk result ((image : Image) (world : World) (s : RunState) → world.notes ≡ program.entry.notes.now → world.script ≡ program.entry.script.now
+    ensures { OnOk result ((image : Image) (world : World) (s : RunState)
+        → world.notes ≡ program.entry.notes.now → world.script ≡ program.entry.script.now
         → IsImage image → world.image_size ≡ image.size → IsRunner W world runner.now s
         → out.new.items ≡ out.old.items ++ argument_line W world s.machine argument seen) }
 {
@@ -308,7 +312,8 @@ fn append_arguments<const W: usize>(
 ) -> Result<(), NoMemory>
     requires width { IsWidth W }
     requires runs { RunsImage W runner.now }
-    ensures { OnOk result ((image : Image) (world : World) (s : RunState) → world.notes ≡ program.entry.notes.now → world.script ≡ program.entry.script.now
+    ensures { OnOk result ((image : Image) (world : World) (s : RunState)
+        → world.notes ≡ program.entry.notes.now → world.script ≡ program.entry.script.now
         → IsImage image → world.image_size ≡ image.size → IsRunner W world runner.now s
         → out.new.items ≡ out.old.items ++ arguments_lines W world s.machine args.now) }
 {
@@ -328,7 +333,8 @@ fn append_event<const W: usize>(
 ) -> Result<(), NoMemory>
     requires width { IsWidth W }
     requires runs { RunsImage W runner.now }
-    ensures { OnOk result ((image : Image) (world : World) (s : RunState) → world.notes ≡ program.entry.notes.now → world.script ≡ program.entry.script.now
+    ensures { OnOk result ((image : Image) (world : World) (s : RunState)
+        → world.notes ≡ program.entry.notes.now → world.script ≡ program.entry.script.now
         → IsImage image → world.image_size ≡ image.size → IsRunner W world runner.now s
         → out.new.items ≡ out.old.items ++ event_lines W world s.machine event.now) }
 {
@@ -354,7 +360,8 @@ pub(crate) fn append_pointed_to<const W: usize>(
 ) -> Result<(), NoMemory>
     requires width { IsWidth W }
     requires runs { RunsImage W runner.now }
-    ensures { OnOk result ((image : Image) (world : World) (s : RunState) → world.notes ≡ program.entry.notes.now → world.script ≡ program.entry.script.now
+    ensures { OnOk result ((image : Image) (world : World) (s : RunState)
+        → world.notes ≡ program.entry.notes.now → world.script ≡ program.entry.script.now
         → IsImage image → world.image_size ≡ image.size → IsRunner W world runner.now s
         → out.new.items ≡ out.old.items ++ pointed_lines W world s.machine events.now) }
 {

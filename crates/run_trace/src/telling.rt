@@ -10,16 +10,19 @@ ghost use Rattle.note_types.specs.Records.{IsNotes};
 ghost use Rattle.note_types.specs.declared.ending.Ending.TheVariants.{Running};
 ghost use Rattle.pe_image.specs.Images.{IsImage};
 ghost use Rattle.pe_image.specs.Mapped.{AreBytes};
+ghost use Rattle.run_trace.specs.Following.{Follows, Steps, TellsStep, world_under};
 ghost use Rattle.run_trace.specs.Traces.{state_lines, step_lines, trace_lines};
 ghost use Rattle.run_trace.specs.Walks.{RunsImage};
 ghost use Rattle.twin_run.specs.Reported.{IsReport, own_run};
 ghost use Rattle.twin_run.specs.Runner.{IsRunner, Runs};
 
 use crate::before::Before;
+use crate::calls::InnerCall;
 use crate::changed::append_changed;
 use crate::holding::holdings;
 use crate::opened::append_opened;
 use crate::pointing::append_pointed_to;
+use crate::traced::TracedRun;
 use note_types::{Ending, Event, NoMemory, Notes, Script};
 use pe_image::Image;
 use std::alloc::Global;
@@ -46,7 +49,7 @@ fn added(events: &[Event], first: usize) -> &[Event]
 /// # Errors
 ///
 /// There is no memory for the text.
-pub fn tell_step<const W: usize>(
+pub(crate) fn tell_step<const W: usize>(
     alloc: Global,
     program: Program,
     runner: &mut Runner<W>,
@@ -57,11 +60,9 @@ pub fn tell_step<const W: usize>(
     requires runs { Runs W program.notes.now program.script.now runner.old }
     requires running { runner.old.ending ≡ Running }
     requires image { 0 < runner.old.image_size }
-    ensures step { (world : World) (r : RunState) → world.notes ≡ program.entry.notes.now → world.script ≡ program.entry.script.now → IsRunner W world runner.old r → IsRunner W world runner.new (run_step W world (own_placement W world) r) }
+    ensures step { Steps W program.entry runner.old runner.new }
     ensures counted { runner.new.taken ≡ min (runner.old.taken + 1) (2 ^ 64 - 1) }
-    ensures text { OnOk result ((world : World) (r : RunState) → IsImage program.entry.image.now → world.image_size ≡ program.entry.image.now.size
-        → world.notes ≡ program.entry.notes.now → world.script ≡ program.entry.script.now → IsRunner W world runner.old r
-        → out.new.items ≡ out.old.items ++ step_lines W world number r (run_step W world (own_placement W world) r)) }
+    ensures text { OnOk result (TellsStep W program.entry number runner.old out.old.items out.new.items) }
 {
     let before = Before::of(runner, program.notes, program.script);
     runner.step(program.image, program.notes, program.script);
@@ -75,38 +76,38 @@ pub fn tell_step<const W: usize>(
 fn next_step<const W: usize>(
     alloc: Global,
     program: Program,
-    runner: &mut Runner<W>,
+    run: &mut TracedRun<W>,
     number: u64,
     first: u64,
     out: &mut Vec<u8>,
 ) -> Result<(), NoMemory>
     requires width { IsWidth W }
-    requires runs { Runs W program.notes.now program.script.now runner.old }
-    requires running { runner.old.ending ≡ Running }
-    requires image { 0 < runner.old.image_size }
-    ensures step { (world : World) (r : RunState) → world.notes ≡ program.entry.notes.now → world.script ≡ program.entry.script.now → IsRunner W world runner.old r → IsRunner W world runner.new (run_step W world (own_placement W world) r) }
-    ensures counted { runner.new.taken ≡ min (runner.old.taken + 1) (2 ^ 64 - 1) }
+    requires runs { Runs W program.notes.now program.script.now run.old.runner }
+    requires running { run.old.runner.ending ≡ Running }
+    requires image { 0 < run.old.runner.image_size }
+    ensures step { Steps W program.entry run.old.runner run.new.runner }
+    ensures counted { run.new.runner.taken ≡ min (run.old.runner.taken + 1) (2 ^ 64 - 1) }
+    ensures calls { OnOk result (Follows W program.entry run.old run.new) }
     ensures before { number < first → out.new ≡ out.old }
-    ensures text { first ≤ number → OnOk result ((world : World) (r : RunState) → IsImage program.entry.image.now → world.image_size ≡ program.entry.image.now.size
-        → world.notes ≡ program.entry.notes.now → world.script ≡ program.entry.script.now → IsRunner W world runner.old r
-        → out.new.items ≡ out.old.items ++ step_lines W world number r (run_step W world (own_placement W world) r)) }
+    ensures text { first ≤ number → OnOk result (TellsStep W program.entry number run.old.runner out.old.items out.new.items) }
 {
     if number < first {
-        runner.step(program.image, program.notes, program.script);
-        return Ok(());
+        return run.advance(program);
     }
-    tell_step(alloc, program, runner, number, out)
+    run.tell(alloc, program, number, out)
 }
 
-/// Appends the lines of the state of a run that has begun: what the machine holds, what is open and what has changed.
+/// Appends the lines of the state of a run that has begun, where these CALLs are open: what the machine holds, what is open and what has
+/// changed.
 ///
 /// # Errors
 ///
 /// There is no memory for the text.
-pub fn append_state<const W: usize>(
+pub(crate) fn append_state<const W: usize>(
     alloc: Global,
     program: Program,
     runner: &Runner<W>,
+    calls: &[InnerCall],
     out: &mut Vec<u8>,
 ) -> Result<(), NoMemory>
     requires width { IsWidth W }
@@ -115,7 +116,8 @@ pub fn append_state<const W: usize>(
     requires notes { IsNotes program.notes.now }
     requires script { IsScript program.notes.now program.script.now }
     requires runs { RunsImage W runner.now }
-    ensures { OnOk result ((world : World) (s : RunState) → world ≡ world_of program.entry.image.now program.entry.notes.now program.entry.script.now → IsRunner W world runner.now s → out.new.items ≡ out.old.items ++ state_lines world (own_run W program.entry.image.now world 0) s) }
+    ensures { OnOk result ((world : World) (s : RunState) → world ≡ world_under program.entry → IsRunner W world runner.now s
+        → out.new.items ≡ out.old.items ++ state_lines world calls.now (own_run W program.entry.image.now world 0) s) }
 {
     let Program {
         image,
@@ -123,13 +125,13 @@ pub fn append_state<const W: usize>(
         script,
     } = program;
     append_holdings(alloc, notes, &holdings(runner, notes), out)?;
-    append_opened(alloc, notes, script, runner, out)?;
+    append_opened(alloc, notes, script, runner, calls, out)?;
     let before = start::<W>(alloc, image, notes, script)?;
     append_changed(alloc, notes, &before, runner, out)
 }
 
 /// Whether the run of a runner goes on.
-pub fn goes_on<const W: usize>(runner: &Runner<W>) -> bool
+pub(crate) fn goes_on<const W: usize>(runner: &Runner<W>) -> bool
     ensures { (world : World) (r : RunState) → IsRunner W world runner.now r → IsTrue result ↔ (r.ending ≡ Running) }
 {
     matches!(runner.ending(), Ending::Running)
@@ -157,19 +159,20 @@ pub fn trace<const W: usize>(
     requires script { IsScript notes.now script.now }
     requires first { 1 ≤ first }
     ensures report { IfOk result (IsReport W image.now (world_of image.now notes.now script.now) last) }
-    ensures text { OnOk result (out.new.items ≡ out.old.items ++ trace_lines W image.now (world_of image.now notes.now script.now) first last) }
+    ensures text { OnOk result
+        (out.new.items ≡ out.old.items ++ trace_lines W image.now (world_of image.now notes.now script.now) first last) }
 {
-    let mut runner = start::<W>(alloc, image, notes, script)?;
     let program = Program {
         image,
         notes,
         script,
     };
+    let mut traced = TracedRun::<W>::start(alloc, program)?;
     let mut taken = 0;
-    while taken < last && goes_on(&runner) {
+    while taken < last && traced.goes_on() {
         taken += 1;
-        next_step(alloc, program, &mut runner, taken, first, out)?;
+        next_step(alloc, program, &mut traced, taken, first, out)?;
     }
-    append_state(alloc, program, &runner, out)?;
-    Ok(runner.report())
+    append_state(alloc, program, &traced.runner, traced.calls.as_slice(), out)?;
+    Ok(traced.runner.report())
 }

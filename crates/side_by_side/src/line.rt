@@ -1,6 +1,7 @@
 //! A line, and two of them side by side.
 ghost use Rattle.std.specs.Prelude.{◌≡◌, ◌++◌, OnOk, codes, drop, take};
-ghost use Rattle.side_by_side.specs.SideBySide.{but_last_word, margin, marked, paired, past_word, place, row_place, same_object, same_subject, subject, word};
+ghost use Rattle.side_by_side.specs.SideBySide.{but_last_word, margin, marked, paired, past_word, place, row_place};
+ghost use Rattle.side_by_side.specs.SideBySide.{same_object, same_subject, subject, word};
 
 use std::alloc::AllocError;
 

@@ -10,7 +10,7 @@ use Rattle.step_texts.specs.declared.pointed.Cells.TheVariants as kinds
 use Rattle.step_texts.specs.declared.state.OpenCall.TheVariants as calls
 use Rattle.step_texts.specs.PointedTexts.{contents_text, first_words, pointed_line, text_in, unit_text}
 use Rattle.step_texts.specs.RowTexts.{bytes_part, more_line, row_line}
-use Rattle.step_texts.specs.StateTexts.{call_line, open_lines}
+use Rattle.step_texts.specs.StateTexts.{back_line, call_line, function_line}
 use Rattle.step_texts.proofs.Rows.{notes}
 
 a_wide_text : contents_text kinds.Words (72 ∷ 0 ∷ 34 ∷ 0 ∷ 0xAC ∷ 0x20 ∷ 0 ∷ 0 ∷ 7 ∷ 0 ∷ [])
@@ -44,21 +44,28 @@ asked_for : call_line notes (Some (calls.Asked 0x1014)) ≡ codes "  asked 00001
 unfolding place_text hex_text
 asked_for = refl
 
-in_a_callback : open_lines notes (record {
+accepted : call_line notes (Some (calls.Accepted 1 None)) ≡ codes "  called 1\n"
+unfolding digits
+accepted = refl
+
+called_in_a_callback : back_line notes (record { number = 0x1051D8; meaning = Some (meaning.Place 0x1048) })
+    ≡ codes "  back 00000000001051d8 tick+0x4\n"
+unfolding hex_text digits function_at
+called_in_a_callback = refl
+
+in_a_callback : function_line notes (record {
   function = 1;
   notified = false;
   back = record { number = 0x1051C8; meaning = Some (meaning.Place 0x1038) };
-  call = None;
 }) ≡ codes "  entered tick 00000000001051c8 main+0x38\n"
 unfolding hex_text digits function_at
 in_a_callback = refl
 
-in_a_notification : open_lines notes (record {
+in_a_notification : function_line notes (record {
   function = 0;
   notified = true;
   back = record { number = 0x100000; meaning = Some (meaning.Past thing.Gate 0) };
-  call = Some (calls.Accepted 1 None);
-}) ≡ codes "  called 1\n  notified main 0000000000100000 gate\n"
+}) ≡ codes "  notified main 0000000000100000 gate\n"
 unfolding hex_text digits
 in_a_notification = refl
 

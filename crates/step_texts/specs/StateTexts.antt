@@ -16,13 +16,15 @@ use Rattle.step_texts.specs.declared.step.Change.{Change}
 
 -- ---- the machine
 
--- the address of the next instruction, and what it is
-abbrev pub ip_line : Notes → Change → List ℕ
-ip_line notes x = codes "  ip " ++ (hex_text 16 x.number ++ (meaning_part notes x.meaning ++ codes "\n"))
+-- an address behind a word, and what it is
+abbrev pub address_line : Notes → (word : List ℕ) → Change → List ℕ
+address_line notes word x =
+    codes "  " ++ (word ++ (codes " " ++ (hex_text 16 x.number ++ (meaning_part notes x.meaning ++ codes "\n"))))
 
 -- a line of its own in front, the registers, ip and C
 abbrev pub holdings_text : Notes → Holdings → List ℕ
-holdings_text notes h = codes "state\n" ++ (register_lines notes h.registers ++ (ip_line notes h.ip ++ flag_line (Some h.has_c)))
+holdings_text notes h =
+    codes "state\n" ++ (register_lines notes h.registers ++ (address_line notes (codes "ip") h.ip ++ flag_line (Some h.has_c)))
 
 -- ---- what is open
 
@@ -41,6 +43,10 @@ call_line notes (Some (calls.Asked place)) = codes "  asked " ++ (place_text pla
 call_line notes (Some (calls.Accepted entry s)) =
     codes "  called " ++ (decimal entry ++ (name_part (signature_name notes s) ++ codes "\n"))
 
+-- a CALL of the image that hasn't returned: the address to which it returns
+abbrev pub back_line : Notes → Change → List ℕ
+back_line notes back = address_line notes (codes "back") back
+
 -- how a function was entered
 abbrev pub entered_word : Bool → List ℕ
 entered_word true = codes "notified"
@@ -51,7 +57,3 @@ abbrev pub function_line : Notes → OpenFunction → List ℕ
 function_line notes o =
     codes "  " ++ (entered_word o.notified ++ (name_part (function_name notes o.function)
     ++ (codes " " ++ (hex_text 16 o.back.number ++ (meaning_part notes o.back.meaning ++ codes "\n")))))
-
--- a function that is open, the native call in it first
-abbrev pub open_lines : Notes → OpenFunction → List ℕ
-open_lines notes o = call_line notes o.call ++ function_line notes o

@@ -1,7 +1,8 @@
 //! The lines of what arguments of native calls point to.
 ghost use Rattle.std.specs.Prelude.{◌≡◌, ◌++◌, IfOk, OnOk, option_map, string_bytes, take, ◌==◌};
 ghost use Rattle.std.specs.List.{flat_map, list_all, position_or_len};
-ghost use Rattle.step_texts.specs.PointedTexts.{before_zero, contents_text, dots, is_plain, is_printable, pointed_line, shown_text, text_in, unit_text, words};
+ghost use Rattle.step_texts.specs.PointedTexts.{before_zero, contents_text, dots, is_plain, is_printable, pointed_line};
+ghost use Rattle.step_texts.specs.PointedTexts.{shown_text, text_in, unit_text, words};
 
 use crate::changes::push_bytes;
 use crate::numbers::Unit;

@@ -1,6 +1,6 @@
 //! The lines of what a run holds between two steps.
 ghost use Rattle.std.specs.Prelude.{◌≡◌, ◌++◌, OnOk, option_map};
-ghost use Rattle.step_texts.specs.StateTexts.{call_line, function_line, holdings_text, ip_line, open_lines, signature_name};
+ghost use Rattle.step_texts.specs.StateTexts.{address_line, back_line, call_line, function_line, holdings_text, signature_name};
 
 use crate::changes::{append_registers, flag_line};
 use crate::meaning::{MeaningPart, Named, function_name};
@@ -39,20 +39,25 @@ pub struct OpenFunction {
     pub notified: bool,
     /// Where the run goes on once it has returned.
     pub back: Change,
-    /// The native call that is under way in it.
-    pub call: Option<OpenCall>,
 }
 
-fn append_ip(alloc: Global, notes: &Notes, ip: Change, out: &mut Vec<u8>) -> Result<(), NoMemory>
-    ensures { OnOk result (out.new.items ≡ out.old.items ++ ip_line notes.now ip) }
+// Appends the line of an address behind a word.
+fn append_address(
+    alloc: Global,
+    notes: &Notes,
+    word: &str,
+    address: Change,
+    out: &mut Vec<u8>,
+) -> Result<(), NoMemory>
+    ensures { OnOk result (out.new.items ≡ out.old.items ++ address_line notes.now word.now address) }
 {
-    let number = Number(ip.number);
+    let number = Number(address.number);
     let meaning = MeaningPart {
         notes,
-        meaning: ip.meaning,
+        meaning: address.meaning,
     };
     let mut line = String::with_capacity(alloc, LINE_ROOM)?;
-    write!(line, "  ip {number}{meaning}\n")?;
+    write!(line, "  {word} {number}{meaning}\n")?;
     out.extend_from_slice(line.as_bytes())?;
     Ok(())
 }
@@ -72,7 +77,7 @@ pub fn append_holdings(
 {
     out.extend_from_slice(b"state\n")?;
     append_registers(alloc, notes, &holdings.registers, out)?;
-    append_ip(alloc, notes, holdings.ip, out)?;
+    append_address(alloc, notes, "ip", holdings.ip, out)?;
     out.extend_from_slice(flag_line(Some(holdings.has_c)).as_bytes())?;
     Ok(())
 }
@@ -90,8 +95,12 @@ fn signature_name(notes: &Notes, signature: Option<u32>) -> Option<&str>
     }
 }
 
-// Appends the line of a native call that is under way, if one is.
-fn append_call(
+/// Appends the line of a native call that is under way, if one is.
+///
+/// # Errors
+///
+/// Want of memory alone.
+pub fn append_open_call(
     alloc: Global,
     notes: &Notes,
     call: Option<OpenCall>,
@@ -114,8 +123,28 @@ fn append_call(
     Ok(())
 }
 
-// Appends the line of a function that was entered.
-fn append_function(
+/// Appends the line of a CALL of the image that hasn't returned, by the address to which it returns.
+///
+/// # Errors
+///
+/// Want of memory alone.
+pub fn append_back(
+    alloc: Global,
+    notes: &Notes,
+    back: Change,
+    out: &mut Vec<u8>,
+) -> Result<(), NoMemory>
+    ensures { OnOk result (out.new.items ≡ out.old.items ++ back_line notes.now back) }
+{
+    append_address(alloc, notes, "back", back, out)
+}
+
+/// Appends the line of a function that the firmware entered and that hasn't returned.
+///
+/// # Errors
+///
+/// Want of memory alone.
+pub fn append_open_function(
     alloc: Global,
     notes: &Notes,
     opened: &OpenFunction,
@@ -138,21 +167,4 @@ fn append_function(
     write!(line, "  {word}{name} {back}{meaning}\n")?;
     out.extend_from_slice(line.as_bytes())?;
     Ok(())
-}
-
-/// Appends the lines of a function that is open: of the native call that is under way in it, and of the function.
-///
-/// # Errors
-///
-/// Want of memory alone.
-pub fn append_open(
-    alloc: Global,
-    notes: &Notes,
-    opened: &OpenFunction,
-    out: &mut Vec<u8>,
-) -> Result<(), NoMemory>
-    ensures { OnOk result (out.new.items ≡ out.old.items ++ open_lines notes.now opened.now) }
-{
-    append_call(alloc, notes, opened.call, out)?;
-    append_function(alloc, notes, opened, out)
 }

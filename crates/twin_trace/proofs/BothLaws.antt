@@ -5,51 +5,19 @@ use Rattle.std.proofs.Common.{sym, ap, ◌∙◌, subst, inl, inr, arith, add-ze
 use Rattle.std.proofs.lemmas.Bool.{cases_lt}
 use Rattle.std.specs.List.{flat_map, range_with_len}
 use Rattle.asm_text.specs.Splits.{lines_of as text_lines}
-use Rattle.host_model.specs.Placements.{own_placement}
-use Rattle.host_model.specs.RunState.{RunState}
-use Rattle.host_model.specs.Runs.{run_step}
 use Rattle.host_model.specs.World.{World}
 use Rattle.note_types.specs.declared.ending.Ending.TheVariants.{Running}
-use Rattle.pe_image.specs.Mapped.{mapped}
 use Rattle.pe_image.specs.declared.image.Image.{Image}
 use Rattle.run_texts.specs.RunTexts.{differ_line}
-use Rattle.run_trace.specs.Traces.{lines_of}
+use Rattle.run_trace.specs.Following.{HasEnded}
+use Rattle.run_trace.specs.Traces.{lines_of, state_after}
 use Rattle.run_trace.specs.declared.telling.Program.{Program}
-use Rattle.run_trace.proofs.TraceLaws.{ended-lines, flat-more, run-next}
+use Rattle.run_trace.proofs.ToldLaws.{after-end}
+use Rattle.run_trace.proofs.TraceLaws.{ended-lines, flat-more}
 use Rattle.side_by_side.specs.SideBySide.{lines_beside, side_by_side}
 use Rattle.twin_run.specs.Reported.{own_run}
-use Rattle.twin_run.specs.Runner.{IsRunner}
-use Rattle.twin_run.specs.declared.runner.Runner.{Runner}
-use Rattle.twin_run.proofs.Stepping.{ended-is-last}
-use Rattle.twin_trace.specs.BothTraces.{AreAfter, HasEnded, HasEnds, IsAfter, last_told, state_after, states_beside, step_beside}
-use Rattle.twin_trace.specs.BothTraces.{steps_beside, told_steps, world_under}
+use Rattle.twin_trace.specs.BothTraces.{AreAfter, HasEnds, last_told, states_beside, step_beside, steps_beside, told_steps}
 use Rattle.twin_trace.specs.declared.runs.BothRuns.{BothRuns}
-
--- ---- one run
-
-module _ (w : ℕ) (p : Program) where
-  -- a step more
-  pub after-next : (k : ℕ) (x y : Runner w) → IsAfter w p k x
-      → ((r : RunState) → IsRunner w (world_under p) x r
-      → IsRunner w (world_under p) y (run_step w (world_under p) (own_placement w (world_under p)) r))
-      → IsAfter w p (k + 1) y
-  after-next k x y at step =
-      subst (IsRunner w (world_under p) y) (sym (run-next w p.image.now (world_under p) k))
-      (step (own_run w p.image.now (world_under p) k) at)
-
-  -- none more, once the run has ended
-  pub after-end : (k m : ℕ) (x : Runner w) → HasEnded w p k → k ≤ m → IsAfter w p k x → IsAfter w p m x
-  after-end k m x over least at =
-      let all : m ≡ k + (m - k) = omega (arith, least) in
-      subst (IsRunner w (world_under p) x) (sym (ap (own_run w p.image.now (world_under p)) all
-      ∙ ended-is-last w (world_under p) (own_placement w (world_under p)) (mapped p.image.now (own_placement w (world_under p)).image) k
-      (m - k) over)) at
-
-  -- and then a step has no lines
-  pub over-lines : (k : ℕ) → HasEnded w p k → lines_of w p.image.now (world_under p) (k + 1) ≡ []
-  over-lines k over =
-      let next : k + 1 ≡ k + 0 + 1 = omega arith in
-      ap (lines_of w p.image.now (world_under p)) next ∙ ended-lines w p.image.now (world_under p) k 0 over
 
 -- ---- both runs
 

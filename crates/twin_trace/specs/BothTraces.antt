@@ -1,20 +1,17 @@
 -- For proofs: what is printed of the steps of an image's runs at both widths. docs/TRACE.md, "Both widths".
-use Rattle.std.specs.Prelude.{◌≡◌, ◌≢◌, ℕ, ◌+◌, ◌-◌, List, ◌++◌, Option, Some, None, max, min}
+use Rattle.std.specs.Prelude.{◌≡◌, ℕ, ◌+◌, ◌-◌, List, ◌++◌, Option, Some, None, max, min}
 use Rattle.std.specs.List.{flat_map, range_with_len}
-use Rattle.host_model.specs.Runs.{world_of}
 use Rattle.host_model.specs.World.{World}
-use Rattle.note_types.specs.declared.ending.Ending.TheVariants.{Running}
 use Rattle.note_types.specs.declared.notes.Notes.{Notes}
 use Rattle.pe_image.specs.declared.image.Image.{Image}
 use Rattle.run_texts.specs.RunTexts.{differ_line, end_line}
-use Rattle.run_trace.specs.Traces.{lines_of, state_lines}
+use Rattle.run_trace.specs.Following.{IsAfter}
+use Rattle.run_trace.specs.Traces.{lines_of, state_after}
 use Rattle.run_trace.specs.declared.telling.Program.{Program}
 use Rattle.side_by_side.specs.SideBySide.{side_by_side}
 use Rattle.twin_run.specs.Differs.{DifferAt}
-use Rattle.twin_run.specs.Reported.{IsReport, own_run}
-use Rattle.twin_run.specs.Runner.{IsRunner}
+use Rattle.twin_run.specs.Reported.{IsReport}
 use Rattle.twin_run.specs.declared.reports.RunReport.{RunReport}
-use Rattle.twin_run.specs.declared.runner.Runner.{Runner}
 use Rattle.twin_trace.specs.declared.runs.BothRuns.{BothRuns}
 
 -- ---- what is printed
@@ -38,10 +35,6 @@ unfoldable pub told_steps : Image → World → (first last : ℕ) → (differ :
 told_steps image world first last None = steps_beside image world (first - 1) last
 told_steps image world first last (Some k) =
     steps_beside image world (min (first - 1) (last - 2)) (last - 1) ++ (differ_line (Some k) ++ steps_beside image world (last - 1) last)
-
--- the lines of the state of the run at a width after so many steps
-abbrev pub state_after : ℕ → Image → World → ℕ → List ℕ
-state_after w image world taken = state_lines world (own_run w image world 0) (own_run w image world taken)
 
 -- the lines of the state at width 32 beside those at width 64
 unfoldable pub states_beside : Image → World → ℕ → List ℕ
@@ -71,20 +64,9 @@ pub record IsBothText (image : Image) (world : World) (first last : ℕ) (text :
   pub parts : DifferAt image world last differ
   pub ends : HasEnds image world (last_told last differ) (told_lines image world first (last_told last differ) differ) text
 
--- ---- runners on their way
+-- ---- runs on their way
 
-abbrev pub world_under : Program → World
-world_under p = world_of p.image.now p.notes.now p.script.now
-
--- A runner is where the run at its width is after so many steps.
-abbrev pub IsAfter : (w : ℕ) → Program → ℕ → Runner w → Type 0
-IsAfter w p taken x = IsRunner w (world_under p) x (own_run w p.image.now (world_under p) taken)
-
--- A run has ended after so many steps.
-abbrev pub HasEnded : (w : ℕ) → Program → ℕ → Type 0
-HasEnded w p taken = (own_run w p.image.now (world_under p) taken).ending ≢ Running
-
--- Both runners are where their runs are.
+-- Both runs are where those at their widths are after so many steps.
 pub record AreAfter (p : Program) (taken : ℕ) (x : BothRuns) : Type 0 where
   pub at4 : IsAfter 4 p taken x.at4
   pub at8 : IsAfter 8 p taken x.at8

@@ -1,47 +1,23 @@
 //! The runs of an image at both widths, step by step.
 ghost use Rattle.std.specs.Prelude.{◌≡◌, ℕ, ◌+◌, ◌-◌, ◌^◌, ◌<◌, ◌++◌, IfOk, OnOk, false, max};
-ghost use Rattle.ebc_width.specs.Width.{IsWidth};
 ghost use Rattle.host_model.specs.Scripts.{IsScript};
 ghost use Rattle.note_types.specs.Records.{IsNotes};
 ghost use Rattle.pe_image.specs.Images.{IsImage};
 ghost use Rattle.pe_image.specs.Mapped.{AreBytes};
-ghost use Rattle.run_trace.specs.Traces.{lines_of};
+ghost use Rattle.run_trace.specs.Following.{HasEnded, world_under};
 ghost use Rattle.run_trace.specs.declared.telling.Program.{Program};
-ghost use Rattle.twin_trace.specs.BothTraces.{AreAfter, HasEnded, IsAfter, states_beside, step_beside, steps_beside, world_under};
+ghost use Rattle.twin_trace.specs.BothTraces.{AreAfter, states_beside, step_beside, steps_beside};
 
 use ebc_base::NoMemory;
-use run_trace::{Program, append_state, goes_on, tell_step};
+use run_trace::{Program, TracedRun};
 use side_by_side::append_beside;
 use std::alloc::Global;
-use twin_run::{Runner, start};
 
 /// The runs of an image at both widths, after as many steps.
 #[derive(Drop)]
 pub(crate) struct BothRuns {
-    pub at4: Runner<4>,
-    pub at8: Runner<8>,
-}
-
-// Takes the step of a run behind the first so many, and appends its lines. A run that has ended has none.
-fn take_step<const W: usize>(
-    alloc: Global,
-    program: Program,
-    runner: &mut Runner<W>,
-    taken: u64,
-    out: &mut Vec<u8>,
-) -> Result<(), NoMemory>
-    requires width { IsWidth W }
-    requires image { IsImage program.image.now }
-    requires few { taken < 2 ^ 64 - 1 }
-    requires before { IsAfter W program taken runner.old }
-    ensures after { IsAfter W program.entry (taken + 1) runner.new }
-    ensures text { OnOk result
-        (out.new.items ≡ out.old.items ++ lines_of W program.entry.image.now (world_under program.entry) (taken + 1)) }
-{
-    if goes_on(runner) {
-        return tell_step(alloc, program, runner, taken + 1, out);
-    }
-    Ok(())
+    pub at4: TracedRun<4>,
+    pub at8: TracedRun<8>,
 }
 
 impl BothRuns {
@@ -57,8 +33,8 @@ impl BothRuns {
         requires script { IsScript program.notes.now program.script.now }
         ensures { IfOk result (AreAfter program.entry 0) }
     {
-        let at4 = start::<4>(alloc, program.image, program.notes, program.script)?;
-        let at8 = start::<8>(alloc, program.image, program.notes, program.script)?;
+        let at4 = TracedRun::start(alloc, program)?;
+        let at8 = TracedRun::start(alloc, program)?;
         Ok(BothRuns { at4, at8 })
     }
 
@@ -67,23 +43,28 @@ impl BothRuns {
         ensures { (program : Program) (taken : ℕ) → AreAfter program taken self.now → result ≡ false →
             HasEnded 4 program taken × HasEnded 8 program taken }
     {
-        if goes_on(&self.at4) {
+        if self.at4.goes_on() {
             return true;
         }
-        goes_on(&self.at8)
+        self.at8.goes_on()
     }
 
     /// Goes on from after so many steps to after as many.
-    pub fn pass(&mut self, program: Program, taken: u64, last: u64)
+    ///
+    /// # Errors
+    ///
+    /// There is no memory for what is open.
+    pub fn pass(&mut self, program: Program, taken: u64, last: u64) -> Result<(), NoMemory>
         requires { AreAfter program taken self.old }
-        ensures { AreAfter program.entry (max taken last) self.new }
+        ensures { OnOk result (AreAfter program.entry (max taken last) self.new) }
     {
         let mut number = taken;
         while number < last && self.go_on() {
-            self.at4.step(program.image, program.notes, program.script);
-            self.at8.step(program.image, program.notes, program.script);
+            self.at4.step(program)?;
+            self.at8.step(program)?;
             number += 1;
         }
+        Ok(())
     }
 
     // Takes the step behind the first so many, and appends its lines.
@@ -103,8 +84,8 @@ impl BothRuns {
     {
         let mut at32 = Vec::new(alloc);
         let mut at64 = Vec::new(alloc);
-        take_step(alloc, program, &mut self.at4, taken, &mut at32)?;
-        take_step(alloc, program, &mut self.at8, taken, &mut at64)?;
+        self.at4.tell_step(alloc, program, taken, &mut at32)?;
+        self.at8.tell_step(alloc, program, taken, &mut at64)?;
         append_beside(at32.as_slice(), at64.as_slice(), out)?;
         Ok(())
     }
@@ -157,8 +138,8 @@ impl BothRuns {
     {
         let mut at32 = Vec::new(alloc);
         let mut at64 = Vec::new(alloc);
-        append_state(alloc, program, &self.at4, &mut at32)?;
-        append_state(alloc, program, &self.at8, &mut at64)?;
+        self.at4.append_state(alloc, program, &mut at32)?;
+        self.at8.append_state(alloc, program, &mut at64)?;
         append_beside(at32.as_slice(), at64.as_slice(), out)?;
         Ok(())
     }

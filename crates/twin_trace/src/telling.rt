@@ -9,7 +9,8 @@ ghost use Rattle.pe_image.specs.Mapped.{AreBytes};
 ghost use Rattle.twin_run.specs.Differs.{DifferAt};
 ghost use Rattle.twin_run.specs.Reported.{IsReport};
 ghost use Rattle.twin_run.specs.declared.reports.RunReport.{RunReport};
-ghost use Rattle.twin_trace.specs.BothTraces.{AreAfter, HasEnds, IsBothText, end_of, last_told, steps_beside, told_lines, told_steps, world_under};
+ghost use Rattle.run_trace.specs.Following.{world_under};
+ghost use Rattle.twin_trace.specs.BothTraces.{AreAfter, HasEnds, IsBothText, end_of, last_told, steps_beside, told_lines, told_steps};
 
 use crate::runs::BothRuns;
 use ebc_base::NoMemory;
@@ -69,7 +70,7 @@ fn append_steps(
         (out.new.items ≡ out.old.items ++ steps_beside program.entry.image.now (world_under program.entry) passed last) }
 {
     let passed = passed.min(last);
-    runs.pass(program, 0, passed);
+    runs.pass(program, 0, passed)?;
     runs.tell(alloc, program, passed, last, out)
 }
 

@@ -1,18 +1,21 @@
-use Rattle.std.proofs.Common.{◌≡◌, ◌⊎◌, ap, arith, inl, inr, refl, sym, ◌∙◌}
+use Rattle.std.proofs.Common.{◌≡◌, ◌⊎◌, ◌++◌, ap, arith, inl, inr, refl, sym, ◌∙◌}
 use Rattle.std.proofs.lemmas.Bool.{false≢true}
 use Rattle.host_model.specs.Runs.{world_of}
 use Rattle.host_model.specs.World.{World}
 use Rattle.note_types.specs.declared.ending.Ending.TheVariants.{Running}
+use Rattle.twin_run.specs.Reported.{own_run}
+use Rattle.run_trace.specs.Traces.{state_lines}
 use Rattle.run_trace.proofs.RunnerLaws.{image-has-bytes, runs-image}
-use Rattle.run_trace.proofs.TraceLaws.{runs-of, told-next, told-none, told-report, trace-all}
+use Rattle.run_trace.proofs.ToldLaws.{told-next, told-none, told-report, trace-all}
+use Rattle.run_trace.proofs.TraceLaws.{runs-of}
 use Rattle.run_trace.proofs.telling.trace.Goals as goal
 use Rattle.run_trace.proofs.telling.trace.Goals.{then-loop-taken-test+else-goes_on, else-loop-taken-test}
 
 pub loop-taken-init : goal.loop-taken-init
 loop-taken-init g c =
     let world : World = world_of c.args.image.now c.args.notes.now c.args.script.now in
-    told-none g.row.W c.args.image.now world c.args.first c.args.last c.in_ok-runner.runner c.args.out.now.items c.requires.first
-    c.in_ok-runner.ensures.start c.in_ok-runner.ensures.taken
+    told-none g.row.W c.args.image.now world c.args.first c.args.last c.in_ok-traced.traced c.args.out.now.items c.requires.first
+    c.in_ok-traced.ensures.start.there c.in_ok-traced.ensures.start.calls c.in_ok-traced.ensures.taken
 
 pub next_step-requires : goal.next_step-requires
 next_step-requires g c =
@@ -22,10 +25,10 @@ next_step-requires g c =
       (
         c.requires.width,
         (
-          runs-of g.row.W c.args.image.now c.args.notes.now c.args.script.now c.loop-taken.runner _ there,
+          runs-of g.row.W c.args.image.now c.args.notes.now c.args.script.now c.loop-taken.traced.runner _ there,
           (
             there.at.ending ∙ (c.goes_on.ensures world _ there).0 c.if-goes_on.true,
-            image-has-bytes g.row.W c.args.image.now c.args.notes.now c.args.script.now c.loop-taken.runner _ c.requires.image there,
+            image-has-bytes g.row.W c.args.image.now c.args.notes.now c.args.script.now c.loop-taken.traced.runner _ c.requires.image there,
           ),
         ),
       ),
@@ -36,10 +39,11 @@ loop-taken-preserved g c =
     let world : World = world_of c.args.image.now c.args.notes.now c.args.script.now in
     let told = c.loop-taken.invariant in
     let there = told.way.there in
-    told-next g.row.W c.args.image.now world c.args.first c.args.last c.loop-taken.taken c.loop-taken.runner c.next_step.new.runner
+    told-next g.row.W c.args.image.now world c.args.first c.args.last c.loop-taken.taken c.loop-taken.traced c.next_step.new.run
     c.args.out.now.items c.loop-taken.out.items c.next_step.new.out.items told c.loop-taken-test.true (omega arith)
     (there.at.ending ∙ (c.goes_on.ensures world _ there).0 c.if-goes_on.true)
     (λ r is. c.in_ok-next_step.ensures.step world r (λ _. c.args.notes.now) (λ _. c.args.script.now) is)
+    (λ r is. c.in_ok-next_step.ensures.calls world r (λ _. c.args.notes.now) (λ _. c.args.script.now) is)
     c.in_ok-next_step.ensures.counted (λ early. ap (λ v. v.items) (c.in_ok-next_step.ensures.before early))
     (λ late r is. c.in_ok-next_step.ensures.text late world r c.requires.image refl (λ _. c.args.notes.now) (λ _. c.args.script.now) is)
 
@@ -47,19 +51,19 @@ pub returns-clause-report : goal.returns-clause-report
 returns-clause-report g c =
     let world : World = world_of c.args.image.now c.args.notes.now c.args.script.now in
     let told = c.loop-taken.invariant in
-    let over : (c.loop-taken.runner.ending ≡ Running → ⊥) ⊎ (c.loop-taken.taken ≡ c.args.last) =
-    elim c.loop-taken-test.branch as (λ _. (c.loop-taken.runner.ending ≡ Running → ⊥) ⊎ (c.loop-taken.taken ≡ c.args.last)) [
+    let over : (c.loop-taken.traced.runner.ending ≡ Running → ⊥) ⊎ (c.loop-taken.taken ≡ c.args.last) =
+    elim c.loop-taken-test.branch as (λ _. (c.loop-taken.traced.runner.ending ≡ Running → ⊥) ⊎ (c.loop-taken.taken ≡ c.args.last)) [
       | then-loop-taken-test+else-goes_on w ↦
           inl (λ e. false≢true (sym w.if-goes_on.false ∙ (w.goes_on.ensures world _ told.way.there).1 (sym told.way.there.at.ending ∙ e)))
       | else-loop-taken-test w ↦ inr (omega (arith, w.loop-taken-test.false, told.way.most))
     ] in
-    told-report g.row.W c.args.image.now world c.args.first c.args.last c.loop-taken.taken c.loop-taken.runner c.report.result
+    told-report g.row.W c.args.image.now world c.args.first c.args.last c.loop-taken.taken c.loop-taken.traced c.report.result
     c.args.out.now.items c.loop-taken.out.items told over c.report.ensures.steps (c.report.ensures.spot world)
     (c.report.ensures.ending world) (c.report.ensures.events world)
 
 pub append_state-requires : goal.append_state-requires
 append_state-requires g c =
-    let runs = runs-image g.row.W c.args.image.now c.args.notes.now c.args.script.now c.loop-taken.runner _ c.requires.image
+    let runs = runs-image g.row.W c.args.image.now c.args.notes.now c.args.script.now c.loop-taken.traced.runner _ c.requires.image
     c.loop-taken.invariant.way.there in (
       omega arith,
       (c.requires.width, (c.requires.image, (c.requires.bytes, (c.requires.notes, (c.requires.script, runs))))),
@@ -69,11 +73,13 @@ pub returns-clause-text : goal.returns-clause-text
 returns-clause-text g c =
     let world : World = world_of c.args.image.now c.args.notes.now c.args.script.now in
     let told = c.loop-taken.invariant in
-    let over : (c.loop-taken.runner.ending ≡ Running → ⊥) ⊎ (c.loop-taken.taken ≡ c.args.last) =
-    elim c.loop-taken-test.branch as (λ _. (c.loop-taken.runner.ending ≡ Running → ⊥) ⊎ (c.loop-taken.taken ≡ c.args.last)) [
+    let over : (c.loop-taken.traced.runner.ending ≡ Running → ⊥) ⊎ (c.loop-taken.taken ≡ c.args.last) =
+    elim c.loop-taken-test.branch as (λ _. (c.loop-taken.traced.runner.ending ≡ Running → ⊥) ⊎ (c.loop-taken.taken ≡ c.args.last)) [
       | then-loop-taken-test+else-goes_on w ↦
           inl (λ e. false≢true (sym w.if-goes_on.false ∙ (w.goes_on.ensures world _ told.way.there).1 (sym told.way.there.at.ending ∙ e)))
       | else-loop-taken-test w ↦ inr (omega (arith, w.loop-taken-test.false, told.way.most))
     ] in
-    trace-all g.row.W c.args.image.now world c.args.first c.args.last c.loop-taken.taken c.loop-taken.runner c.args.out.now.items
-    c.loop-taken.out.items _ c.requires.first told over (λ s is. c.in_ok-append_state.ensures world s refl is)
+    trace-all g.row.W c.args.image.now world c.args.first c.args.last c.loop-taken.taken c.loop-taken.traced c.args.out.now.items
+    c.loop-taken.out.items _ c.requires.first told over (λ s is. c.in_ok-append_state.ensures world s refl is
+    ∙ ap (λ calls. c.loop-taken.out.items ++ state_lines world calls (own_run g.row.W c.args.image.now world 0) s)
+    c.as_slice.ensures.value)

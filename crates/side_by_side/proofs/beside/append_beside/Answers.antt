@@ -1,8 +1,8 @@
-use Rattle.std.proofs.Common.{◌≡◌, Some, ap, sym, ◌∙◌, ◌++◌, append_assoc}
+use Rattle.std.proofs.Common.{◌≡◌, Some, sym}
 use Rattle.std.proofs.lemmas.Result.{on_ok_weaker}
-use Rattle.asm_text.specs.Splits.{line_cut, lines_of}
+use Rattle.asm_text.specs.Splits.{line_cut}
 use Rattle.ebc_asm.proofs.SourceLaws.{next_shorter}
-use Rattle.side_by_side.specs.SideBySide.{only32, side_by_side}
+use Rattle.side_by_side.specs.SideBySide.{side_by_side}
 use Rattle.side_by_side.proofs.BesideLaws.{line_behind, line_none}
 use Rattle.side_by_side.proofs.beside.append_beside.Goals as goal
 

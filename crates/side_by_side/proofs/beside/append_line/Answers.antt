@@ -1,8 +1,7 @@
-use Rattle.std.proofs.Common.{◌≡◌, Some, ap, sym, ◌∙◌, ◌++◌, append_assoc}
+use Rattle.std.proofs.Common.{ap, sym, ◌∙◌, ◌++◌, append_assoc}
 use Rattle.std.proofs.lemmas.Result.{IfOk-weaker}
-use Rattle.asm_text.specs.Splits.{line_cut, lines_of}
-use Rattle.ebc_asm.proofs.SourceLaws.{next_shorter}
-use Rattle.side_by_side.specs.SideBySide.{only32, side_by_side}
+use Rattle.asm_text.specs.Splits.{lines_of}
+use Rattle.side_by_side.specs.SideBySide.{only32}
 use Rattle.side_by_side.proofs.BesideLaws.{line_alone, line_found}
 use Rattle.side_by_side.proofs.beside.append_line.Goals as goal
 

@@ -1,7 +1,6 @@
-use Rattle.std.proofs.Common.{◌≡◌, Some, ap, sym, ◌∙◌, ◌++◌, append_assoc}
-use Rattle.asm_text.specs.Splits.{line_cut, lines_of}
+use Rattle.std.proofs.Common.{◌≡◌, Some, sym, ◌∙◌}
+use Rattle.asm_text.specs.Splits.{line_cut}
 use Rattle.ebc_asm.proofs.SourceLaws.{next_shorter}
-use Rattle.side_by_side.specs.SideBySide.{only32, side_by_side}
 use Rattle.side_by_side.proofs.BesideLaws.{until_behind, until_here, until_none}
 use Rattle.side_by_side.proofs.beside.append_until.Goals as goal
 

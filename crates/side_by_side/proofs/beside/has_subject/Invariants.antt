@@ -1,7 +1,7 @@
-use Rattle.std.proofs.Common.{◌≡◌, ◌++◌, ℕ, List, length}
-use Rattle.std.specs.List.{flat_map, list_any}
+use Rattle.std.proofs.Common.{◌≡◌, length}
+use Rattle.std.specs.List.{list_any}
 use Rattle.asm_text.specs.Splits.{lines_of}
-use Rattle.side_by_side.specs.SideBySide.{lines_beside, only64, same_subject, until_beside}
+use Rattle.side_by_side.specs.SideBySide.{same_subject}
 use Rattle.side_by_side.proofs.beside.has_subject.Given as goal
 
 abbrev pub invariant-loop-next : goal.invariant-loop-next

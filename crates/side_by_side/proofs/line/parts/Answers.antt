@@ -2,7 +2,7 @@ use Rattle.std.proofs.Common.{ℕ, ◌==◌, not, ap, sym, ◌∙◌, arith, dro
 use Rattle.std.proofs.lemmas.List.{drop_all, take_all}
 use Rattle.std.proofs.lemmas.List.Sums.{position_or_len_is}
 use Rattle.std.specs.List.{position_or_len}
-use Rattle.side_by_side.specs.SideBySide.{margin, word}
+use Rattle.side_by_side.specs.SideBySide.{margin}
 use Rattle.side_by_side.proofs.line.parts.Goals as goal
 
 pub returns-in-Some-clause-blanks : goal.returns-in-Some-clause-blanks

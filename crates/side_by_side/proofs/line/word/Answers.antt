@@ -1,8 +1,8 @@
-use Rattle.std.proofs.Common.{ℕ, ◌==◌, not, ap, sym, ◌∙◌, arith, drop, length, rules, take}
-use Rattle.std.proofs.lemmas.List.{drop_all, take_all}
+use Rattle.std.proofs.Common.{ℕ, ◌==◌, ap, sym, ◌∙◌, arith, length, rules, take}
+use Rattle.std.proofs.lemmas.List.{take_all}
 use Rattle.std.proofs.lemmas.List.Sums.{position_or_len_is}
 use Rattle.std.specs.List.{position_or_len}
-use Rattle.side_by_side.specs.SideBySide.{margin, word}
+use Rattle.side_by_side.specs.SideBySide.{word}
 use Rattle.side_by_side.proofs.line.word.Goals as goal
 
 pub returns-in-Some : goal.returns-in-Some

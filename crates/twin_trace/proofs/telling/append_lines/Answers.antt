@@ -1,6 +1,7 @@
 use Rattle.std.proofs.Common.{ap, append_assoc, ◌∙◌, ◌++◌}
 use Rattle.std.proofs.lemmas.Result.{on_ok_weaker}
-use Rattle.twin_trace.specs.BothTraces.{states_beside, told_steps, world_under}
+use Rattle.run_trace.specs.Following.{world_under}
+use Rattle.twin_trace.specs.BothTraces.{states_beside, told_steps}
 use Rattle.twin_trace.proofs.telling.append_lines.Goals as goal
 
 pub returns : goal.returns

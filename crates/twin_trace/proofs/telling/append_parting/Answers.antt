@@ -1,6 +1,7 @@
 use Rattle.std.proofs.Common.{◌≡◌, ◌-◌, arith, max, rules, subst}
 use Rattle.std.proofs.lemmas.Result.{on_ok_weaker}
-use Rattle.twin_trace.specs.BothTraces.{AreAfter, world_under}
+use Rattle.run_trace.specs.Following.{world_under}
+use Rattle.twin_trace.specs.BothTraces.{AreAfter}
 use Rattle.twin_trace.proofs.BothLaws.{parting-told}
 use Rattle.twin_trace.proofs.telling.append_parting.Goals as goal
 

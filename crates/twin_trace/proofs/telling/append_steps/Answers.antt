@@ -1,13 +1,14 @@
 use Rattle.std.proofs.Common.{◌≡◌, ◌∙◌, ◌++◌, ap, arith, max, subst}
 use Rattle.std.proofs.lemmas.Result.{on_ok_weaker}
-use Rattle.twin_trace.specs.BothTraces.{AreAfter, world_under}
+use Rattle.run_trace.specs.Following.{world_under}
+use Rattle.twin_trace.specs.BothTraces.{AreAfter}
 use Rattle.twin_trace.proofs.BothLaws.{steps-capped}
 use Rattle.twin_trace.proofs.telling.append_steps.Goals as goal
 
 pub tell-requires-clause-before : goal.tell-requires-clause-before
 tell-requires-clause-before c =
     let same : max 0 c.min-passed.result ≡ c.min-passed.result = omega arith in
-    subst (λ n. AreAfter c.args.program n c.pass.new.self) same c.pass.ensures
+    subst (λ n. AreAfter c.args.program n c.pass.new.self) same c.in_ok-pass.ensures
 
 pub returns-clause-after : goal.returns-clause-after
 returns-clause-after c =

@@ -1,6 +1,7 @@
 use Rattle.std.proofs.Common.{ap, sym, ◌∙◌, ◌++◌}
 use Rattle.std.proofs.lemmas.Result.{on_ok_weaker}
-use Rattle.twin_trace.specs.BothTraces.{steps_beside, told_steps, world_under}
+use Rattle.run_trace.specs.Following.{world_under}
+use Rattle.twin_trace.specs.BothTraces.{steps_beside, told_steps}
 use Rattle.twin_trace.proofs.telling.append_told.Goals as goal
 
 pub returns-in-None-clause-text : goal.returns-in-None-clause-text

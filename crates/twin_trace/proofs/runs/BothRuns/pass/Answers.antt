@@ -1,6 +1,5 @@
-use Rattle.std.proofs.Common.{inl, inr, refl, sym, ap, ◌∙◌, ◌++◌, arith, append-nil}
-use Rattle.twin_trace.specs.BothTraces.{steps_beside, world_under}
-use Rattle.twin_trace.proofs.BothLaws.{after-next, stopped}
+use Rattle.std.proofs.Common.{inl, inr, arith}
+use Rattle.twin_trace.proofs.BothLaws.{stopped}
 use Rattle.twin_trace.proofs.runs.BothRuns.pass.Goals as goal
 
 pub loop-number-init : goal.loop-number-init
@@ -8,15 +7,12 @@ loop-number-init c = record { at = c.requires; least = omega arith; most = omega
 
 pub loop-number-preserved : goal.loop-number-preserved
 loop-number-preserved c =
-    let p = c.args.program in
     let at = c.loop-number.invariant.at in
     let under = c.loop-number-test.true in
     record {
       at = record {
-        at4 = after-next 4 p c.loop-number.number c.loop-number.self.at4 c.step.new.self at.at4
-            (λ r is. c.step.ensures.step (world_under p) r refl refl is);
-        at8 = after-next 8 p c.loop-number.number c.loop-number.self.at8 c.step-in-loop-number.new.self at.at8
-            (λ r is. c.step-in-loop-number.ensures.step (world_under p) r refl refl is);
+        at4 = c.in_ok-step.ensures c.loop-number.number at.at4;
+        at8 = c.in_ok-step-2.ensures c.loop-number.number at.at8;
       };
       least = omega (arith, c.loop-number.invariant.least);
       most = omega (arith, under);

@@ -1,5 +1,5 @@
-use Rattle.std.proofs.Common.{◌≡◌, ◌++◌, ◌-◌, ◌≤◌, max}
-use Rattle.twin_trace.specs.BothTraces.{AreAfter, steps_beside, world_under}
+use Rattle.std.proofs.Common.{◌-◌, ◌≤◌, max}
+use Rattle.twin_trace.specs.BothTraces.{AreAfter}
 use Rattle.twin_trace.proofs.runs.BothRuns.pass.Given as goal
 
 abbrev pub invariant-loop-number : goal.invariant-loop-number

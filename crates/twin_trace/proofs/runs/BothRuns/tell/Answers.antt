@@ -1,6 +1,6 @@
-use Rattle.std.proofs.Common.{inl, inr, refl, sym, ap, ◌∙◌, ◌++◌, arith, append-nil}
-use Rattle.twin_trace.specs.BothTraces.{steps_beside, world_under}
-use Rattle.twin_trace.proofs.BothLaws.{Stops, after-next, none-beside, stopped, stopped-beside, told-more}
+use Rattle.std.proofs.Common.{inl, inr, sym, ap, ◌∙◌, ◌++◌, arith, append-nil}
+use Rattle.run_trace.specs.Following.{world_under}
+use Rattle.twin_trace.proofs.BothLaws.{none-beside, stopped, stopped-beside, told-more}
 use Rattle.twin_trace.proofs.runs.BothRuns.tell.Goals as goal
 
 pub loop-number-init : goal.loop-number-init

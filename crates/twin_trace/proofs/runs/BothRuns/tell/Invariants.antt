@@ -1,5 +1,6 @@
 use Rattle.std.proofs.Common.{◌≡◌, ◌++◌, ◌-◌, ◌≤◌, max}
-use Rattle.twin_trace.specs.BothTraces.{AreAfter, steps_beside, world_under}
+use Rattle.run_trace.specs.Following.{world_under}
+use Rattle.twin_trace.specs.BothTraces.{AreAfter, steps_beside}
 use Rattle.twin_trace.proofs.runs.BothRuns.tell.Given as goal
 
 abbrev pub invariant-loop-number : goal.invariant-loop-number
