@@ -1,112 +1,76 @@
 -- The listing of an image is assembled to an object, which is linked to the image.
-use Rattle.link_laws.proofs.Common.{◌≡◌, ⊎_elim, ℕ, ◌+◌, ◌<◌, ◌≤◌, List, [], ◌∷◌, ◌++◌, length, Bool, true, cond, sym, ap, ◌∙◌, arith}
-use Rattle.link_laws.proofs.Common.{subst, nat_eq, list_any, cases_lt, or_left, or_right, nat_tests, map-append, list_any-append, Listed}
-use Rattle.link_laws.proofs.Common.{label_text, listed_line, same_bytes, Image, label_lines, labels, makes_global, get_or, map_fixed}
-use Rattle.link_laws.proofs.Common.{filter_passes, inl, inr, ◌-◌, ◌*◌, ◌^◌, map, Some, Ok, false, refl, append-nil, IfSome, slice_index}
-use Rattle.link_laws.proofs.Common.{AllByRecursion, filter, all_append, IsBytes, ◌⊎◌, IsObject, Fixup, Object, Line, object_in, object_of}
-use Rattle.link_laws.proofs.Common.{fixups_in, names_with, start, symbol_of, rounded, IsLinked, linked_sections, AreBytes, laid}
-use Rattle.link_laws.proofs.Common.{named_place, Section, is_cut, recursion_from_All, listing_of, named, LinkPlan, Laid, contents_start}
-use Rattle.link_laws.proofs.Common.{places_of, Definition, definitions, first_in, bytes_for, contents_of, place_of, relocs_of, with_fixups}
-use Rattle.link_laws.proofs.Common.{entry_in, links, links_laid, filter-append, flag, apart_in, is_address, relocs_in, IsListable}
-use Rattle.link_laws.proofs.Common.{ListsAgain, All, file_of}
-use Rattle.link_laws.proofs.Relocs.{IsHome, Within, are_low, are_named, code_bytes, contents_bytes, count_relocs, homes, label_inside}
-use Rattle.link_laws.proofs.Relocs.{laid_code, laid_data, relocs_parted, section_inside, whole_code, whole_data}
-use Rattle.link_laws.proofs.{PlaceLaws.AreUncut, PlaceLaws.behind_item, Listings.IsShown, Listings.all_lines, Listings.code_lines}
-use Rattle.link_laws.proofs.{Listings.data_lines, Listings.data_place, Listings.entry_labelled, Listings.all_of_lines, Listings.data_placed}
-use Rattle.link_laws.proofs.{Listings.listing_object, Listings.text_placed, SectionLaws.IsStep, SectionLaws.walk, SectionLaws.Agree}
-use Rattle.link_laws.proofs.{Sources.source, Sources.fixup_at, Objects.code_agrees, Objects.code_fixups, Objects.code_is}
-use Rattle.link_laws.proofs.{Objects.contents_agree, Objects.contents_fixups, Objects.contents_is, Objects.object_is, Objects.reloc_fixup}
-use Rattle.link_laws.proofs.{Objects.names_few_in, Faultless.IsEntrySymbol, Faultless.linked, Faultless.sole_entry, Faultless.sole_far}
-use Rattle.link_laws.proofs.{Faultless.sole_twice, Faultless.sole_undefined, Faultless.image_again, Faultless.sole, Faultless.sole_laid}
-use Rattle.link_laws.proofs.{Lists.all_kept, Lists.all_map, Lists.all_members, Lists.all_of, Lists.drop_map, Lists.each_of}
-use Rattle.link_laws.proofs.{Lists.each_of_both, Lists.keep_map, Lists.map_twice, Filling.IsReloc, Filling.IsSection, Filling.StandsAt}
-use Rattle.link_laws.proofs.{Filling.section_again, Filling.stands_at, FixupWalk.AreNamed, FixupWalk.in_range, FixupWalk.named_some}
-use Rattle.link_laws.proofs.{FixupWalk.with_target, Bodies.IsLabelled, Bodies.named_inside, Bodies.target_labelled, Bodies.place_in_line}
-use Rattle.link_laws.proofs.{Taken.IsLabel, Taken.names_are, Taken.IsPlaced}
-use Rattle.ebc_link.specs.Fixups.{code_of}
-use Rattle.ebc_link.specs.Fixups as fixups
-use Rattle.asm_text.specs.declared.listing.Listed.TheVariants as listed
+use Rattle.std.proofs.lemmas.List.Elements.{All-cons, All-nil, Contains-append_cases}
+use Rattle.std.proofs.lemmas.List.Folds.{list_any_at}
+use Rattle.link_laws.proofs.Bodies.{IsLabelled, named_inside, place_in_line, target_labelled}
+use Rattle.link_laws.proofs.Common.{All, fixups_in, IsAddress, nat_tests, object_in, object_of, own_bytes, places_of, relocs_of, same_bytes}
+use Rattle.link_laws.proofs.Common.{All-contains, contents_start, first_of_all, head_or_later, if◌then◌else◌, length-append, little_endian}
+use Rattle.link_laws.proofs.Common.{All-contains_itself, Contains-append_left, Contains-append_right, linked_sections, little_endian-below}
+use Rattle.link_laws.proofs.Common.{All-from_recursion, AllByRecursion, AllPairs, Any-from_list_any, get_or-to_le_bytes, recursion_from_All}
+use Rattle.link_laws.proofs.Common.{All-weaker, Definition, definitions, distance_of, IsListable, ListsAgain, named_place, Ok, section_kind}
+use Rattle.link_laws.proofs.Common.{ap, inr, map, not, sym, [], ◌+◌, ◌-◌, ◌<◌, ◌^◌, ◌∙◌, ◌∷◌, ◌≡◌, ◌≤◌}
+use Rattle.link_laws.proofs.Common.{Apart, arith, Bool, eq-eqb, false, filter, Fixup, get_or, Image, is_cut, labels, length, nat_eq, ⊎_elim}
+use Rattle.link_laws.proofs.Common.{apart_in, AreBytes, bytes_eq, Contains, entry_in, IsLinked, IsObject, LinkPlan, same_name, symbol_of, ℕ}
+use Rattle.link_laws.proofs.Common.{cases_Bool, ext_get_or, filter_map, IsBelow, label_text, length-map, links_laid, listing_of, names_with}
+use Rattle.link_laws.proofs.Common.{file_of, first_in, IfSome, inl, is_named, list_any, nowhere, Object, Option, place_of, rounded, Section}
+use Rattle.link_laws.proofs.Common.{fills, flag, is_of, kept, Laid, laid, Line, links, List, named, refl, Some, start, subst, true, ◌++◌}
+use Rattle.link_laws.proofs.Faultless.{bytes_are, image_again, IsEntrySymbol, LabelStands, sole_entry, sole_far, sole_twice, sole_undefined}
+use Rattle.link_laws.proofs.Faultless.{sole, sole_laid, stands_at, target_is}
+use Rattle.link_laws.proofs.FixupWalk.{AreNamed, in_range, named_some, with_target}
+use Rattle.link_laws.proofs.Listings.{all_lines, IsShown}
+use Rattle.link_laws.proofs.Listings.{all_of_lines, data_place, data_placed, entry_global, entry_labelled, listing_object, text_placed}
+use Rattle.link_laws.proofs.Lists.{all_pass, each_of, each_of_both, fails_of, map_twice}
+use Rattle.link_laws.proofs.Objects.{code_agrees, code_fixups, contents_agree, contents_fixups, reloc_fixup}
+use Rattle.link_laws.proofs.Relocs.{are_low, are_whole, byte_of, IsHome, laid_code, laid_data, Within}
+use Rattle.link_laws.proofs.Relocs.{are_named, code_bytes, contents_bytes, count_relocs, homes, label_inside, relocs_parted, section_inside}
+use Rattle.link_laws.proofs.Sources.{fixup_at, source}
+use Rattle.link_laws.proofs.{ItemLaws.is_free, OneLinked.one_ascending, SectionLaws.Agree, Taken.IsLabel, Taken.IsPlaced, Taken.names_are}
+use Rattle.ebc_asm.proofs.SoundLaws.{counted}
+use Rattle.ebc_link.proofs.{FillLaws.length-filled, HoldLaws.was_there, LinkLaws.ends_linked, RelocLaws.relocs_apart, ThereLaws.was_mapped}
+use Rattle.ebc_link.proofs.{HoldLaws.is_there, OwnLaws.fixup_byte, OwnLaws.own_byte, ThereLaws.mapped, ThereLaws.was_kept}
+use Rattle.ebc_link.specs.Fixups.{filled_section}
 
--- one of these lines makes the entry global
-abbrev pub IsGlobal : Image → List Listed → Type 0
-IsGlobal image ls = list_any (makes_global (label_text image.entry)) (source ls) ≡ true
+-- a section has one number
+one_kind : (d e : Bool) → section_kind d ≡ section_kind e → d ≡ e
+one_kind d e is = grind (arith, is)
 
-global_front : (image : Image) (xs ys : List Listed) → IsGlobal image xs → IsGlobal image (xs ++ ys)
-global_front image xs ys h =
-    ap (list_any (makes_global (label_text image.entry))) (map-append listed_line xs ys)
-    ∙ (list_any-append (makes_global (label_text image.entry)) (source xs) (source ys) ∙ or_left _ _ h)
+-- the label of a place is among the labels of places
+label_among : (p : ℕ) (ps : List ℕ) → list_any (nat_eq p) ps ≡ true → is_named (label_text p) (map label_text ps) ≡ true
+label_among p [] here = cc here
+label_among p (q ∷ ps) here = grind (arith, nat_tests, label_among p ps, same_bytes (label_text p))
 
-global_back : (image : Image) (xs ys : List Listed) → IsGlobal image ys → IsGlobal image (xs ++ ys)
-global_back image xs ys h =
-    ap (list_any (makes_global (label_text image.entry))) (map-append listed_line xs ys)
-    ∙ (list_any-append (makes_global (label_text image.entry)) (source xs) (source ys) ∙ or_right _ _ h)
+-- ---- names that each stand once are no more than the names among which they are
 
-global_here : (image : Image) (x : ℕ) → x ≡ image.entry → IsGlobal image (label_lines image x)
-unfolding label_lines
-global_here image x same =
-    let yes : nat_eq x image.entry ≡ true = grind (arith, nat_tests) in
-    let lines : Bool → List Listed = λ c.
-    cond c (listed.Global x ∷ listed.Label x ∷ []) (cond (list_any (nat_eq x) (labels image)) (listed.Label x ∷ []) []) in
-    let name = subst (λ y. makes_global (label_text image.entry) (listed_line (listed.Global y)) ≡ true) (sym same) (same_bytes
-    (label_text image.entry)) in
-    ap (λ c. list_any (makes_global (label_text image.entry)) (source (lines c))) yes ∙ or_left _ _ name
+abbrev without : List ℕ → List (List ℕ) → List (List ℕ)
+without n ms = filter (λ m. not (bytes_eq n m)) ms
 
-abbrev HasEntry : Image → ℕ → List ℕ → List Listed → Type 0
-HasEntry image x bytes ls = x ≤ image.entry → image.entry < x + length bytes → IsGlobal image ls
+no_more : (n : List ℕ) (ms : List (List ℕ)) → length (without n ms) ≤ length ms
+no_more n [] = omega arith
+no_more n (m ∷ ms) = grind (arith, no_more n ms)
 
-entry_step : (image : Image) (code : Bool) → AreUncut image → IsStep image code (HasEntry image)
-entry_step image code all x b bytes rest l n each is item left later from to =
-    ⊎_elim
-    (λ past.
-    let behind : x + n ≤ image.entry = behind_item image code x image.entry n (b ∷ bytes) l is all (entry_labelled image) past in
-    global_back image (label_lines image x ++ l ∷ []) rest (later behind (omega (arith, to))))
-    (λ same.
-    global_front image (label_lines image x ++ l ∷ []) rest
-    (global_front image (label_lines image x) (l ∷ []) (global_here image x (omega (arith, same, from)))))
-    (cases_lt x image.entry)
+one_less : (n : List ℕ) (ms : List (List ℕ)) → is_named n ms ≡ true → length (without n ms) + 1 ≤ length ms
+one_less n [] there = cc there
+one_less n (m ∷ ms) there = grind (arith, no_more n ms, one_less n ms)
 
--- The lines of an image that is entered in its code make the entry global.
-pub entry_global : (image : Image) (text contents : List ℕ) → IsShown image text contents → IsGlobal image (all_lines image text contents)
-entry_global image text contents s =
-    let here = walk image true (HasEntry image) (λ x from to. absurd (omega (arith, from, to)))
-    (entry_step image true s.uncut) 0x1000 text s.text_bytes
-    s.entry_from s.entry_to in
-    global_front image (code_lines image text) (data_lines image (data_place text) contents) here
+still_named : (n q : List ℕ) (ms : List (List ℕ)) → bytes_eq n q ≡ false → is_named q ms ≡ true → is_named q (without n ms) ≡ true
+still_named n q [] other there = there
+still_named n q (m ∷ ms) other there = grind (arith, still_named n q ms other, same_name q m)
+
+few_apart : (ns ms : List (List ℕ)) → Apart ns → AllByRecursion (λ n. is_named n ms ≡ true) ns → length ns ≤ length ms
+few_apart [] ms apart there = omega arith
+few_apart (n ∷ ns) ms apart there =
+    let rest = few_apart ns (without n ms) apart.1 (each_of_both (λ q. bytes_eq n q ≡ false) (λ q. is_named q ms ≡ true)
+    (λ q. is_named q (without n ms) ≡ true) ns (λ q. still_named n q ms) (fails_of (bytes_eq n) ns apart.0) there.1) in
+    omega (arith, rest, one_less n ms there.0)
+
+few_targets : (f : ℕ → Option ℕ) (rs : List ℕ) → length (filter_map f rs) ≤ length rs
+few_targets f [] = omega arith
+few_targets f (r ∷ rs) = grind (arith, few_targets f rs)
+
+labels_few : (image : Image) → length (labels image) ≤ 1 + length image.relocs
+unfolding labels
+labels_few image = omega (arith, few_targets (named image) image.relocs)
 
 -- ---- an image whose listing is linked again
-
-places_back : (f : ℕ → ℕ) (x n : ℕ) (rs : List ℕ) → ((r : ℕ) → f r ≡ x + (r - x))
-    → map f (filter (in_range x n) rs) ≡ filter (in_range x n) rs
-places_back f x n rs is = map_fixed f (filter (in_range x n) rs) (λ i d inside.
-    let r : ℕ = get_or (filter (in_range x n) rs) i d in
-    let passes : in_range x n r ≡ true = filter_passes (in_range x n) rs i d inside in
-    let same : x + (r - x) ≡ r = grind (arith, nat_tests) in
-    is r ∙ same)
-
--- the eight bytes of a relocation lie in some bytes, before them or behind them
-abbrev Lies : ℕ → ℕ → ℕ → Type 0
-Lies s n r = ((s ≤ r) × (r + 8 ≤ s + n)) ⊎ ((r + 8 ≤ s) ⊎ (s + n ≤ r))
-
--- the target of a relocation stands in its place, which is small
-abbrev Targets : Image → List Line → Laid → ℕ → Type 0
-Targets image ls h r = StandsAt ls h (named_place image r) × (named_place image r < 2 ^ 32)
-
-reloc_by : (image : Image) (ls : List Line) (h : Laid) (s n r : ℕ) → Lies s n r → Targets image ls h r → IsReloc image ls h s n r
-reloc_by image ls h s n r (inl a) t =
-    record { whole = λ e. a.1; apart = inl (grind (arith, nat_tests)); target = t.0; low = t.1 }
-reloc_by image ls h s n r (inr (inl far)) t =
-    record { whole = λ e. omega (arith, far); apart = inr (λ i few. grind (arith, nat_tests)); target = t.0; low = t.1 }
-reloc_by image ls h s n r (inr (inr far)) t =
-    record { whole = λ e. grind (arith, nat_tests); apart = inr (λ i few. grind (arith, nat_tests)); target = t.0; low = t.1 }
-
-first_kept : {A : Type 0} (p : Fixup → Bool) (f g : A → Fixup) (xs ys : List A) → ((x : A) → p (f x) ≡ true) → ((x : A) → p (g x) ≡ false)
-    → filter p (map f xs ++ map g ys) ≡ map f xs
-first_kept p f g xs ys all none =
-    rw (filter-append p (map f xs) (map g ys), keep_map p f xs all, drop_map p g ys none) (append-nil (map f xs))
-
-last_kept : {A : Type 0} (p : Fixup → Bool) (f g : A → Fixup) (xs ys : List A) → ((x : A) → p (f x) ≡ false) → ((x : A) → p (g x) ≡ true)
-    → filter p (map f xs ++ map g ys) ≡ map g ys
-last_kept p f g xs ys none all = rw (filter-append p (map f xs) (map g ys), drop_map p f xs none) (keep_map p g ys all)
 
 module _ (image : Image) (b : ℕ) (bs contents : List ℕ) where
   -- its code, where its data begin, the lines of its listing, their names and their object, alone
@@ -128,18 +92,25 @@ module _ (image : Image) (b : ℕ) (bs contents : List ℕ) where
   abbrev alone : Laid
   alone = sole object
 
-  -- the relocations of its code and those of its data, and their fixups
-  abbrev code_relocs : List ℕ
-  code_relocs = filter (in_range 0x1000 (length text)) image.relocs
+  -- where a section begins, its bytes, the relocations in it, and the fixup of one of them
+  abbrev from : Bool → ℕ
+  from d = if d then place else 0x1000
 
-  abbrev data_relocs : List ℕ
-  data_relocs = filter (in_range place (length contents)) image.relocs
+  abbrev part : Bool → List ℕ
+  part d = if d then contents else text
 
-  abbrev code_fixup : ℕ → Fixup
-  code_fixup = reloc_fixup image false 0x1000 names
+  abbrev own_relocs : Bool → List ℕ
+  own_relocs d = filter (in_range (from d) (length (part d))) image.relocs
 
-  abbrev data_fixup : ℕ → Fixup
-  data_fixup = reloc_fixup image true place names
+  abbrev fixup : Bool → ℕ → Fixup
+  fixup d = reloc_fixup image d (from d) names
+
+  abbrev its_own : Bool → List Fixup
+  its_own d = map (fixup d) (own_relocs d)
+
+  -- Eight bytes lie in a section.
+  abbrev Lies : Bool → ℕ → Type 0
+  Lies d r = (from d ≤ r) × (r + 8 ≤ from d + length (part d))
 
   -- What is known of an image and of its code, which isn't empty, and data.
   record Shows : Type 0 where
@@ -161,116 +132,214 @@ module _ (image : Image) (b : ℕ) (bs contents : List ℕ) where
   module _ (s : Shows) where
     code_long : length object.code ≡ length text
     unfolding object_in
-    code_long = ap length (code_is image text contents s.shown) ∙ (code_agrees image text contents s.shown).long
+    code_long = (code_agrees image text contents s.shown).long
 
     -- where its data stand
     its_home : alone.home.contents ≡ place
     its_home = ap (λ n. rounded 0x1000 (0x1000 + n)) code_long
 
     -- each label stands in its place
-    label_stands : (y : ℕ) → IsLabelled image y → StandsAt ls alone y
+    label_stands : (y : ℕ) → IsLabelled image y → LabelStands ls alone y
     label_stands y here =
-        let in_code : Within 0x1000 (length text) y → StandsAt ls alone y = λ w.
+        let in_code : Within 0x1000 (length text) y → LabelStands ls alone y = λ w.
         stands_at ls alone false 0x1000 y (text_placed image text contents s.shown y here w.0 w.1) refl in
-        let in_data : Within place (length contents) y → StandsAt ls alone y = λ w.
+        let in_data : Within place (length contents) y → LabelStands ls alone y = λ w.
         stands_at ls alone true place y (data_placed image text contents s.shown y here w.0 w.1) its_home in
         ⊎_elim
         (λ same. in_code (omega (arith, same), omega (arith, same)))
         (λ there. ⊎_elim in_code in_data (section_inside image b bs contents s.sections y there))
         (label_inside image y here)
 
-    targets_stand : AllByRecursion (Targets image ls alone) image.relocs
-    targets_stand =
-        each_of (λ r. list_any (nat_eq r) image.relocs ≡ true) (Targets image ls alone) image.relocs
-        (λ r here.
+    target_stands : (r : ℕ) → Contains image.relocs r → LabelStands ls alone (named_place image r) × (named_place image r < 2 ^ 32)
+    target_stands r there =
+        let here = list_any_at (nat_eq r) image.relocs there.0 r there.1 (eq-eqb r (get_or image.relocs there.0 r) (sym there.2)) in
         let is : named image r ≡ Some (named_place image r) = named_some image r s.are here in (
           label_stands (named_place image r) (target_labelled image r (named_place image r) here is),
           s.shown.low (named_place image r) (named_inside image r (named_place image r) is),
-        ))
-        (all_members image.relocs)
+        )
 
-    -- ---- its sections
+    -- ---- its fixups are those of its relocations
 
-    section_by : (x : ℕ) (bytes out : List ℕ)
-        → ((y : ℕ) → Within x (length bytes) y → laid (linked_sections text contents) y ≡ slice_index bytes (y - x)) → IsBytes bytes
-        → Agree image x out bytes
-        → ((r : ℕ) → IsHome (length text) place (length contents) r → Lies x (length bytes) r) → IsSection image ls alone x bytes out
-    section_by x bytes out is each agree lies = record {
-      here = λ i low.
-          let same : x + i - x ≡ i = omega arith in
-          ap (λ (ss : List Section). laid ss (x + i)) s.sections
-          ∙ (is (x + i) (omega arith, omega (arith, low)) ∙ ap (slice_index bytes) same);
-      each = each;
-      agree = agree;
-      relocs = each_of_both (IsHome (length text) place (length contents)) (Targets image ls alone)
-          (IsReloc image ls alone x (length bytes)) image.relocs
-          (λ r home t. reloc_by image ls alone x (length bytes) r (lies r home) t) s.home targets_stand;
-    }
-
-    code_section : IsSection image ls alone 0x1000 text object.code
-    unfolding object_in
-    code_section = section_by 0x1000 text object.code (laid_code text contents) s.shown.text_bytes
-        (subst (λ bytes. Agree image 0x1000 bytes text) (sym (code_is image text contents s.shown))
-        (code_agrees image text contents s.shown))
-        (λ r home. ⊎_elim (λ a. inl a) (λ a. inr (inr (omega arith))) home)
-
-    data_section : IsSection image ls alone place contents object.contents
-    unfolding object_in
-    data_section = section_by place contents object.contents (laid_data text contents) s.shown.contents_bytes
-        (subst (λ bytes. Agree image place bytes contents) (sym (contents_is image text contents s.shown))
-        (contents_agree image place contents s.shown.contents_bytes))
-        (λ r home. ⊎_elim (λ a. inr (inl (omega arith))) (λ a. inl a) home)
-
-    -- ---- its fixups
-
-    its_fixups : object.fixups ≡ map code_fixup code_relocs ++ map data_fixup data_relocs
+    its_fixups : object.fixups ≡ its_own false ++ its_own true
     unfolding object_in
     its_fixups =
-        let first : fixups_in false start names ls ≡ map code_fixup code_relocs =
-        code_fixups image text contents s.shown names s.are (whole_code image (length text) place (length contents) far_enough s.home)
-        ∙ map_twice (fixup_at false 0x1000 names) (with_target image) code_relocs in
-        let second : fixups_in true start names ls ≡ map data_fixup data_relocs =
-        contents_fixups image text contents s.shown names s.are (whole_data image (length text) place (length contents) far_enough s.home)
-        ∙ map_twice (fixup_at true place names) (with_target image) data_relocs in
+        let first : fixups_in false start names ls ≡ its_own false =
+        code_fixups image text contents s.shown names s.are (are_whole image (length text) place (length contents) far_enough s.home).0
+        ∙ map_twice (fixup_at false 0x1000 names) (with_target image) (own_relocs false) in
+        let second : fixups_in true start names ls ≡ its_own true =
+        contents_fixups image text contents s.shown names s.are (are_whole image (length text) place (length contents) far_enough s.home).1
+        ∙ map_twice (fixup_at true place names) (with_target image) (own_relocs true) in
         rw (first, second) refl
 
-    code_again : (base : ℕ) (ds : List Definition) → base ≡ image.base → code_of base ds alone ≡ text
-    code_again base ds same =
-        let fs = ap (fixups.in_section 1) its_fixups
-        ∙ first_kept (λ (x : Fixup). nat_eq x.section 1) code_fixup data_fixup code_relocs data_relocs (λ r. refl) (λ r. refl) in
-        ap (with_fixups (bytes_for base (places_of ds alone) alone.home) object.code) fs
-        ∙ section_again image ls alone false 0x1000 base text object.code ds code_section its_symbols same
-        (subst (λ k. k < 2 ^ 32) (sym same) s.small) s.bytes
+    -- a relocation with a byte of a section lies in it
+    lies_at : (d : Bool) (r i : ℕ) → Contains image.relocs r → i < length (part d) → is_of (from d + i) r ≡ true → Lies d r
+    lies_at d r i there low has = by d low has
+        (All-contains (IsHome (length text) place (length contents)) image.relocs r (All-from_recursion _ image.relocs s.home) there)
+      where
+        by : (d : Bool) → i < length (part d) → is_of (from d + i) r ≡ true → IsHome (length text) place (length contents) r → Lies d r
+        by false low has (inl a) = a
+        by false low has (inr a) = absurd (grind (arith, nat_tests, far_enough))
+        by true low has (inl a) = absurd (grind (arith, nat_tests, far_enough))
+        by true low has (inr a) = a
 
-    contents_again : (base : ℕ) (ds : List Definition) → base ≡ image.base → contents_of base ds alone ≡ contents
-    contents_again base ds same =
-        let fs = ap (fixups.in_section 2) its_fixups
-        ∙ last_kept (λ (x : Fixup). nat_eq x.section 2) code_fixup data_fixup code_relocs data_relocs (λ r. refl) (λ r. refl) in
-        ap (with_fixups (bytes_for base (places_of ds alone) alone.home) object.contents) fs
-        ∙ section_again image ls alone true place base contents object.contents ds data_section its_symbols same
-        (subst (λ k. k < 2 ^ 32) (sym same) s.small) s.bytes
+    -- The relocation of a fixup.
+    record IsOf (f : Fixup) : Type 0 where
+      d : Bool
+      r : ℕ
+      there : Contains image.relocs r
+      lies : Lies d r
+      is : fixup d r ≡ f
 
-    -- its relocations are those of the image
+    of_fixup : (f : Fixup) → Contains object.fixups f → IsOf f
+    of_fixup f has =
+        ⊎_elim (by false) (by true) (Contains-append_cases (its_own false) (its_own true) f (subst (λ fs. Contains fs f) its_fixups has))
+      where
+        by : (d : Bool) → Contains (its_own d) f → IsOf f
+        by d here =
+            let (r, kept_, is) = was_mapped (fixup d) (own_relocs d) f here in
+            let (there, passes) = was_kept (in_range (from d) (length (part d))) image.relocs r kept_ in
+            let low : r - from d < length (part d) = grind (arith, nat_tests) in
+            let has_ : is_of (from d + (r - from d)) r ≡ true = grind (arith, nat_tests) in
+            record { d = d; r = r; there = there; lies = lies_at d r (r - from d) there low has_; is = is }
+
+    to_fixup : (d : Bool) (r : ℕ) → Contains image.relocs r → Lies d r → Contains object.fixups (fixup d r)
+    to_fixup d r there lies = rw its_fixups (by d here)
+      where
+        passes : in_range (from d) (length (part d)) r ≡ true
+        passes = grind (arith, nat_tests)
+
+        here : Contains (its_own d) (fixup d r)
+        here = mapped (fixup d) (own_relocs d) r (kept (in_range (from d) (length (part d))) image.relocs r there passes)
+
+        by : (e : Bool) → Contains (its_own e) (fixup d r) → Contains (its_own false ++ its_own true) (fixup d r)
+        by false = Contains-append_left (its_own false) (its_own true) (fixup d r)
+        by true = Contains-append_right (its_own false) (its_own true) (fixup d r)
+
+    -- ---- it is an object
+
+    names_are_labels : AllByRecursion (IsLabel image) names
+    names_are_labels =
+        names_are image [] (all_lines image text contents) tt
+        (all_of_lines image text contents s.shown (λ l. IfSome (place_in_line l) (IsLabelled image)) tt tt (λ code l h. h.place))
+
+    its_size : IsObject object
+    its_size =
+        let parted = relocs_parted (length text) place (length contents) image.relocs far_enough s.are.ascend s.home in
+        let relocs = count_relocs (length text) place (length contents) image.relocs far_enough s.are.ascend s.home in
+        let named_ = few_apart names (map label_text (labels image)) (apart_in [] ls tt) (each_of (IsLabel image)
+        (λ n. is_named n (map label_text (labels image)) ≡ true) names
+        (λ n is. rw (is.is) (label_among is.place (labels image) is.labelled)) names_are_labels) in
+        let count = simp (length-append, length-map) at (ap length its_fixups) in
+        let symbols = simp length-map at (ap length its_symbols) in
+        counted (listing_of image) object (listing_object image b bs contents s.sections s.shown)
+        (omega (arith, symbols, simp length-map at named_, labels_few image, relocs))
+        (omega (arith, count, simp length-append at (ap length parted), relocs))
+
+    -- ---- its sections, with its fixups filled in
+
+    agrees : (d : Bool) → Agree image (from d) (own_bytes alone (section_kind d)) (part d)
+    unfolding object_in
+    agrees false = code_agrees image text contents s.shown
+    agrees true = contents_agree image text contents s.shown
+
+    image_byte : (d : Bool) (i : ℕ) → i < length (part d) → laid image.sections (from d + i) ≡ get_or (part d) i 0
+    image_byte false i low = ap (λ (ss : List Section). laid ss (0x1000 + i)) s.sections ∙ laid_code text contents i low
+    image_byte true i low = ap (λ (ss : List Section). laid ss (place + i)) s.sections ∙ laid_data text contents i low
+
+    module _ (base : ℕ) (ds : List Definition) (same : base ≡ image.base) (d : Bool) where
+      abbrev filled : List ℕ
+      filled = filled_section (section_kind d) base ds alone
+
+      -- a byte of a relocation
+      byte_of_reloc : (r i : ℕ) → Contains image.relocs r → Lies d r → i < length (part d) → is_of (from d + i) r ≡ true
+          → get_or filled i 0 ≡ get_or (part d) i 0
+      unfolding named_place
+      byte_of_reloc r i there lies within has =
+          let f : Fixup = fixup d r in
+          let j : ℕ = i - (r - from d) in
+          let n : ℕ = little_endian (laid image.sections) r 8 in
+          let st = target_stands r there in
+          let few : j < 8 = grind (arith, nat_tests) in
+          let at : r - from d + j ≡ i = grind (arith, nat_tests) in
+          let place_ : r + j ≡ from d + i = omega (arith, lies.0, at) in
+          let low : n < 2 ^ 64 = omega (arith, little_endian-below (laid image.sections) r 8 s.bytes) in
+          let named_ : named_place image r ≡ distance_of n base = ap (distance_of n) (sym same) in
+          let address : base + named_place image r ≡ n = omega (arith, low, s.small, same, named_, st.1) in
+          let spelled = bytes_are base (places_of ds alone) alone f n (named_place image r) refl
+          (target_is ds alone ls f (named_place image r) its_symbols refl st.0) address low in
+          ap (λ k. get_or filled k 0) (sym at)
+          ∙ (fixup_byte (section_kind d) base ds alone f j its_size (to_fixup d r there lies) refl few
+          ∙ (ap (λ bs. get_or bs j 0) spelled ∙ (get_or-to_le_bytes n j few ∙ (byte_of (laid image.sections) r 8 j s.bytes few
+          ∙ (ap (laid image.sections) place_ ∙ image_byte d i within)))))
+
+      -- and one of none
+      unmoved : (i : ℕ) → i < length (part d) → list_any (fills (section_kind d) i) object.fixups ≡ false
+          → is_free image (from d + i) ≡ true
+      unmoved i low none =
+          all_pass (λ r. not (is_of (from d + i) r)) image.relocs (recursion_from_All _ image.relocs
+          (All-weaker (Contains image.relocs) (λ r. not (is_of (from d + i) r) ≡ true) each image.relocs
+          (All-contains_itself image.relocs)))
+        where
+          each : (r : ℕ) → Contains image.relocs r → not (is_of (from d + i) r) ≡ true
+          each r there = ⊎_elim
+              (λ yes.
+              let fails = All-contains (λ f. fills (section_kind d) i f ≡ false) object.fixups (fixup d r)
+              (All-from_recursion _ object.fixups (fails_of (fills (section_kind d) i) object.fixups none))
+              (to_fixup d r there (lies_at d r i there low yes)) in
+              absurd (grind (arith, nat_tests, fails)))
+              (λ no. ap not no) (cases_Bool (is_of (from d + i) r))
+
+      section_again : filled ≡ part d
+      section_again =
+          let long = length-filled (section_kind d) base ds alone its_size ∙ (agrees d).long in
+          ext_get_or 0 filled (part d) long (λ i low. by i (omega (arith, low, long)))
+        where
+          by : (i : ℕ) → i < length (part d) → get_or filled i 0 ≡ get_or (part d) i 0
+          by i low = ⊎_elim
+              (λ some.
+              let (k, f, within, at, fill) = Any-from_list_any (fills (section_kind d) i) object.fixups some in
+              let it = of_fixup f (k, within, at) in
+              let Fills : Fixup → Type 0 = λ g. fills (section_kind d) i g ≡ true in
+              let here : Fills (fixup it.d it.r) = subst Fills (sym it.is) fill in
+              let e : it.d ≡ d = one_kind it.d d (grind (arith, nat_tests)) in
+              let lies : Lies d it.r = subst (λ c. Lies c it.r) e it.lies in
+              let fill_ : Fills (fixup d it.r) = subst (λ c. Fills (fixup c it.r)) e here in
+              byte_of_reloc it.r i it.there lies low (grind (arith, nat_tests)))
+              (λ none. own_byte (section_kind d) base ds alone i its_size none ∙ (agrees d).same i low (unmoved i low none))
+              (cases_Bool (list_any (fills (section_kind d) i) object.fixups))
+
+    -- ---- its relocations are those of the image
+
+    place_back : (d : Bool) (r : ℕ) → Lies d r → place_of alone.home (fixup d r) ≡ r
+    place_back false r lies = omega (arith, lies.0)
+    place_back true r lies = let at : place + (r - place) ≡ r = omega (arith, lies.0) in ap (λ p. p + (r - place)) its_home ∙ at
+
+    address_back : (x : ℕ) → IsAddress (alone ∷ []) x → Contains image.relocs x
+    address_back x (l, f, one, has, five, is) =
+        head_or_later (Contains image.relocs x) alone [] l one
+        (λ same.
+        let it = of_fixup f (subst (λ (k : Laid). Contains k.object.fixups f) (sym same) has) in
+        let back = ap (place_of alone.home) (sym it.is) ∙ place_back it.d it.r it.lies in
+        subst (Contains image.relocs) (sym (is ∙ (ap (λ (k : Laid). place_of k.home f) (sym same) ∙ back))) it.there)
+        (nowhere (Contains image.relocs x) l)
+
+    address_of : (x : ℕ) → Contains image.relocs x → IsAddress (alone ∷ []) x
+    address_of x there = ⊎_elim (by false) (by true)
+        (All-contains (IsHome (length text) place (length contents)) image.relocs x (All-from_recursion _ image.relocs s.home) there)
+      where
+        by : (d : Bool) → Lies d x → IsAddress (alone ∷ []) x
+        by d lies = (alone, fixup d x, first_of_all [] alone, to_fixup d x there lies, refl, sym (place_back d x lies))
+
     relocs_again : relocs_of (alone ∷ []) ≡ image.relocs
-    unfolding relocs_of
     relocs_again =
-        let at_home : (r : ℕ) → place_of alone.home (data_fixup r) ≡ place + (r - place) = λ r. ap (λ p. p + (r - place)) its_home in
-        let first : relocs_in 1 alone ≡ code_relocs =
-        rw (
-          its_fixups,
-          first_kept (is_address 1) code_fixup data_fixup code_relocs data_relocs (λ r. refl) (λ r. refl),
-          map_twice (place_of alone.home) code_fixup code_relocs,
-        )
-        (places_back (λ r. place_of alone.home (code_fixup r)) 0x1000 (length text) image.relocs (λ r. refl)) in
-        let second : relocs_in 2 alone ≡ data_relocs =
-        rw (
-          its_fixups,
-          last_kept (is_address 2) code_fixup data_fixup code_relocs data_relocs (λ r. refl) (λ r. refl),
-          map_twice (place_of alone.home) data_fixup data_relocs,
-        )
-        (places_back (λ r. place_of alone.home (data_fixup r)) place (length contents) image.relocs at_home) in
-        rw (append-nil (relocs_in 1 alone) ∙ first, append-nil (relocs_in 2 alone) ∙ second)
-        (relocs_parted (length text) place (length contents) image.relocs far_enough s.are.ascend s.home)
+        let objects : (l : Laid) → Contains (alone ∷ []) l → IsObject l.object = λ l one.
+        head_or_later (IsObject l.object) alone [] l one (λ same. subst (λ (k : Laid). IsObject k.object) same its_size)
+        (nowhere (IsObject l.object) l) in
+        one_ascending (relocs_of (alone ∷ [])) image.relocs
+        (subst (λ ms. AllPairs IsBelow (relocs_of ms)) (sole_laid object)
+        (relocs_apart (object ∷ []) (All-cons IsObject object [] its_size (All-nil IsObject))))
+        s.linked.apart
+        (λ x. (λ there. address_back x (is_there (alone ∷ []) x there), λ there. was_there (alone ∷ []) objects x (address_of x there)))
 
     -- ---- no fault comes of it
 
@@ -278,16 +347,12 @@ module _ (image : Image) (b : ℕ) (bs contents : List ℕ) where
     names_stand =
         each_of (IsLabel image) (λ n. nat_eq (symbol_of ls n).kind 0 ≡ false) names
         (λ n is. subst (λ m. nat_eq (symbol_of ls m).kind 0 ≡ false) (sym is.is) (label_stands is.place is.labelled).there)
-        (names_are image (all_lines image text contents)
-        (all_of_lines image text contents s.shown (λ l. IfSome (place_in_line l) (IsLabelled image)) tt tt (λ code l h. h.place)))
+        names_are_labels
 
     all_addresses : AllByRecursion (λ (f : Fixup). f.kind ≡ 5) object.fixups
     all_addresses =
-        let Address : Fixup → Type 0 = λ f. f.kind ≡ 5 in
-        subst (AllByRecursion Address) (sym its_fixups)
-        (all_append Address (map code_fixup code_relocs) (map data_fixup data_relocs)
-        (all_map Address code_fixup code_relocs (all_of (λ r. Address (code_fixup r)) code_relocs (λ r. refl)))
-        (all_map Address data_fixup data_relocs (all_of (λ r. Address (data_fixup r)) data_relocs (λ r. refl))))
+        recursion_from_All _ object.fixups (All-weaker (Contains object.fixups) (λ (f : Fixup). f.kind ≡ 5)
+        (λ f has. ap (λ (g : Fixup). g.kind) (sym (of_fixup f has).is)) object.fixups (All-contains_itself object.fixups))
 
     entry_placed : IsPlaced ls false 0x1000 image.entry
     entry_placed = text_placed image text contents s.shown image.entry (entry_labelled image) s.shown.entry_from s.shown.entry_to
@@ -310,25 +375,15 @@ module _ (image : Image) (b : ℕ) (bs contents : List ℕ) where
         let name : List ℕ = label_text image.entry in
         let ds : List Definition = definitions (alone ∷ []) in
         let found = sole_entry alone (symbol_of ls) name names its_symbols (λ n. refl) entry_placed.known (same_bytes name) entry_symbol in
+        let again = image_again plan object image text contents base subsystem s.sections s.linked.size
+        (section_again plan.base ds base false) (section_again plan.base ds base true) relocs_again in
         ap (λ ms. links_laid plan ms (contents_start (object ∷ []))) (sole_laid object)
-        ∙ linked plan (alone ∷ []) (contents_start (object ∷ [])) image.entry image
-        (sole_twice object alone (symbol_of ls) names its_symbols (λ n. refl) (apart_in [] ls tt))
-        (sole_undefined ds object alone (symbol_of ls) names its_symbols names_stand)
+        ∙ (ends_linked plan (alone ∷ []) (contents_start (object ∷ [])) image.entry (record {
+          twice = sole_twice object alone (symbol_of ls) names its_symbols (λ n. refl) (apart_in [] ls tt);
+          undefined = sole_undefined ds object alone (symbol_of ls) names its_symbols names_stand;
+        })
         (sole_far ds alone all_addresses) (ap (λ n. first_in (entry_in n) (alone ∷ [])) entry ∙ (found ∙ ap Some entry_placed.offset))
-        (image_again plan object image text contents base subsystem s.sections s.linked.size (code_again plan.base ds base)
-        (contents_again plan.base ds base) relocs_again)
-        s.linked.small
-
-    -- ---- it is an object
-
-    its_size : IsObject object
-    its_size =
-        let n : ℕ = length text in
-        let m : ℕ = length contents in
-        let named_ = names_few_in image text contents s.shown s.are (whole_code image n place m far_enough s.home)
-        (whole_data image n place m far_enough s.home) (relocs_parted n place m image.relocs far_enough s.are.ascend s.home) in
-        let few = count_relocs n place m image.relocs far_enough s.are.ascend s.home in
-        object_is image text contents s.shown (3 * length image.relocs + 2) named_ (omega (arith, few))
+        (rw again s.linked.small) ∙ ap Ok again)
 
 -- ---- the law
 

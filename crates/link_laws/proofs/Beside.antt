@@ -1,15 +1,16 @@
 -- The bytes of a line of the code in the image that its object is linked to, and the fixups and relocations beside them.
-use Rattle.link_laws.proofs.Common.{IsInside, laid_inside, object_of_laid, ◌≡◌, ◌⊎◌, inl, inr, ⊎_elim, ℕ, ◌+◌, ◌≤◌, List, [], ◌∷◌, length}
-use Rattle.link_laws.proofs.Common.{get_or, sym, ap, subst, ◌∙◌, arith, AllPairs, AllByRecursion, Contains, All-from_recursion, Object}
-use Rattle.link_laws.proofs.Common.{rounded, Laid, code_end, code_start, contents_start, homes_from, homes_of, laid_objects, laid_with}
-use Rattle.link_laws.proofs.Common.{Bool, None, Option, Some, false, length-append, refl, replicate, true, ◌++◌, ◌<◌, All, slice_index}
-use Rattle.link_laws.proofs.Common.{nat_tests, get_or-append-add, get_or_append_left, length-replicate, All-contains, recursion_from_All}
-use Rattle.link_laws.proofs.Common.{all_append, spelling, Insn, IsObject, width, Fixup, Line, is_of, laid, Image, AreFit, code_ends}
-use Rattle.link_laws.proofs.Common.{ends_in, ends_of, known_in, data_after, ends_in_data, insn_use, section_of, use_of, bytes_of, object_in}
-use Rattle.link_laws.proofs.Common.{fixup_of, fixups_in, fixups_of, names_with, section_kind, start, place_of, place_in, Linked, fills}
-use Rattle.link_laws.proofs.Common.{LinkPlan, subst₂, cases_order, get_or_default, AllPairs-cons, All-weaker, contents_end, Stands, stands}
-use Rattle.link_laws.proofs.Common.{IsFixup, section_bytes, AreFixups, are_fixups, Knows, KnowsUse, LineFits, IsAddress}
-use Rattle.link_laws.proofs.{Lists.all_back, Lists.all_front, Lists.each_of, Lists.none_passes, Sources.ends_at, Sources.fixups_append}
+use Rattle.link_laws.proofs.Common.{All, AreFixups, code_ends, fixups_in, fixups_of, IsAddress, laid_with, nat_tests, object_in, section_of}
+use Rattle.link_laws.proofs.Common.{All-contains, contents_end, ends_in_data, Fixup, laid_inside, laid_objects, section_bytes, section_kind}
+use Rattle.link_laws.proofs.Common.{All-from_recursion, Contains-append_left, Contains-append_right, get_or-append-add, get_or_append_left}
+use Rattle.link_laws.proofs.Common.{All-weaker, all_append, are_fixups, AreFit, code_start, data_after, homes_from, names_with, slice_index}
+use Rattle.link_laws.proofs.Common.{AllByRecursion, AllPairs-cons, contents_start, IsFixup, length-append, length-replicate, object_of_laid}
+use Rattle.link_laws.proofs.Common.{AllPairs, bytes_of, code_end, Contains, IsInside, IsObject, KnowsUse, LineFits, LinkPlan, replicate, []}
+use Rattle.link_laws.proofs.Common.{ap, ℕ, ◌+◌, ◌<◌, ◌∙◌, ◌∷◌, ◌≡◌, ◌≤◌, ◌⊎◌}
+use Rattle.link_laws.proofs.Common.{arith, Bool, false, fills, get_or, Image, Knows, length, Object, Option, Stands, stands, use_of, ⊎_elim}
+use Rattle.link_laws.proofs.Common.{ends_in, ends_of, fixup_of, homes_of, insn_use, known_in, Linked, place_in, place_of, rounded, spelling}
+use Rattle.link_laws.proofs.Common.{inl, inr, Insn, is_of, Laid, laid, Line, List, None, refl, Some, start, subst, sym, true, width, ◌++◌}
+use Rattle.link_laws.proofs.Lists.{all_back, all_front, each_of, none_passes, one_or_apart}
+use Rattle.link_laws.proofs.Sources.{ends_at, fixups_append}
 use Rattle.asm_text.specs.Statements as statements
 
 -- ---- objects stand apart: the code of one ends before that of a later one, and so do its data, which stand behind all code
@@ -36,16 +37,8 @@ pub laid_apart : (objects : List Object) (l m : Laid) → Contains (laid_objects
     → (l ≡ m) ⊎ (IsBefore l m ⊎ IsBefore m l)
 unfolding laid_objects homes_of
 laid_apart objects l m first second =
-    let ls : List Laid = laid_with objects (homes_from code_start (contents_start objects) objects) in
-    let pairs : AllPairs IsBefore ls = all_before code_start (contents_start objects) objects in
-    ⊎_elim
-    (λ same. inl (sym first.2 ∙ (ap (λ k. get_or ls k l) same ∙ (get_or_default ls second.0 l m second.1 ∙ second.2))))
-    (λ other. ⊎_elim
-    (λ less. inr (inl (subst₂ IsBefore first.2 (get_or_default ls second.0 l m second.1
-    ∙ second.2) (pairs first.0 second.0 l less second.1))))
-    (λ more. inr (inr (subst₂ IsBefore second.2 (get_or_default ls first.0 m l first.1 ∙ first.2) (pairs second.0 first.0 m more first.1))))
-    other)
-    (cases_order first.0 second.0)
+    one_or_apart IsBefore (laid_with objects (homes_from code_start (contents_start objects) objects)) l m
+    (all_before code_start (contents_start objects) objects) first second
 
 pub behind_code : (objects : List Object) → code_end code_start objects ≤ contents_start objects
 unfolding contents_start
@@ -97,17 +90,6 @@ own_is : (off : ℕ) (names : List (List ℕ)) (i : Insn) (name : Option (List �
 own_is off names i None = tt
 own_is off names i (Some name) = (refl, tt)
 
--- the fixups of a line and of those behind it
-pub line_fixups : (off k : ℕ) (names : List (List ℕ)) (line : Line) (back : List Line) (i : Insn) (name : Option (List ℕ))
-    → line.statement ≡ Some (statements.Instruction i name)
-    → fixups_in false (ends_at false off k) names (line ∷ back)
-    ≡ fixups_of false off names (use_of (Some (statements.Instruction i name)))
-    ++ fixups_in false (ends_at false (off + length (spelling i)) k) names back
-unfolding fixups_in
-line_fixups off k names line back i name is =
-    ap (λ s. fixups_of false off names (use_of s) ++ fixups_in false (ends_at (data_after false s) (off + length
-    (bytes_of s)) k) names back) is
-
 pub ends_here : (front : List Line) → ends_in_data false front ≡ false
     → ends_of start front ≡ ends_at false (length (section_of false false front)) (ends_of start front).data_end
 ends_here front code =
@@ -115,42 +97,67 @@ ends_here front code =
     ap (λ d. ends_at d (ends_of start front).code_end k) (ends_in start front ∙ code)
     ∙ ap (λ c. ends_at false c k) (code_ends start front ∙ omega arith)
 
--- each fixup of an object is one of a line of its code, or beside its bytes
-pub all_beside : (front back : List Line) (line : Line) (i : Insn) (name : Option (List ℕ)) → AreFit (front ++ line ∷ back)
-    → line.statement ≡ Some (statements.Instruction i name) → ends_in_data false front ≡ false
-    → AllByRecursion (IsBeside (length (section_of false false front)) (length (spelling i))
-    (own_fixup (length (section_of false false front)) (names_with [] (front ++ line ∷ back)) i name)) (object_in (front
-    ++ line ∷ back)).fixups
-unfolding object_in
-all_beside front back line i name fit is code =
-    let ls : List Line = front ++ line ∷ back in
-    let names : List (List ℕ) = names_with [] ls in
-    let off : ℕ = length (section_of false false front) in
-    let n : ℕ = length (spelling i) in
-    let k : ℕ = (ends_of start front).data_end in
-    let this : Option Fixup = own_fixup off names i name in
-    let known : Knows names ls = known_in [] ls in
-    let rest_fit = all_back LineFits front (line ∷ back) fit in
-    let rest_known = all_back (KnowsLine names) front (line ∷ back) known in
-    let one : List Fixup = fixups_in false start names front in
-    let two : List Fixup = fixups_of false off names (use_of (Some (statements.Instruction i name))) in
-    let three : List Fixup = fixups_in false (ends_at false (off + n) k) names back in
-    let parts = fixups_append false start names front (line ∷ back)
-    ∙ ap (λ fs. one ++ fs) (ap (λ e. fixups_in false e names (line ∷ back)) (ends_here front code)
-    ∙ line_fixups off k names line back i name is) in
-    let B : Fixup → Type 0 = IsBeside off n this in
-    let first = each_of (IsWithin 1 0 (0 + off)) B one (λ f h. inr (inl (h.0, omega arith)))
-    (code_between false 0 0 names front (all_front LineFits front (line ∷ back) fit)
-    (all_front (KnowsLine names) front (line ∷ back) known)) in
-    let second : AllByRecursion B two = each_of (λ f. this ≡ Some f) B two (λ f h. inr (inr (inr h))) (own_is off names i name) in
-    let third : AllByRecursion B three =
-    each_of (IsWithin 1 (off + n) (off + n + length (section_of false false back))) B three (λ f h. inr (inr (inl (h.0, h.1.0))))
-    (code_between false (off + n) k names back rest_fit.1 rest_known.1) in
-    let last = each_of (IsWithin 2 0 (length (section_of true false ls))) B (fixups_in true start names ls) (λ f h. inl h.0)
-    (section_all true 0 0 (section_of true false ls) names (fixups_in true start names ls) (omega arith)
-    (are_fixups true false 0 0 names ls [] refl fit known)) in
-    all_append B (fixups_in false start names ls) (fixups_in true start names ls)
-    (subst (AllByRecursion B) (sym parts) (all_append B one (two ++ three) first (all_append B two three second third))) last
+module _ (front back : List Line) (line : Line) (i : Insn) (name : Option (List ℕ))
+    (is : line.statement ≡ Some (statements.Instruction i name)) (code : ends_in_data false front ≡ false) where
+  -- the lines, their names, where the line begins in the code, and how long it is
+  abbrev ls : List Line
+  ls = front ++ line ∷ back
+
+  abbrev names : List (List ℕ)
+  names = names_with [] ls
+
+  abbrev off : ℕ
+  off = length (section_of false false front)
+
+  abbrev n : ℕ
+  n = length (spelling i)
+
+  abbrev k : ℕ
+  k = (ends_of start front).data_end
+
+  -- the fixups of the code before the line, those of the line, and those of the code behind it
+  abbrev one : List Fixup
+  one = fixups_in false start names front
+
+  abbrev two : List Fixup
+  two = fixups_of false off names (use_of (Some (statements.Instruction i name)))
+
+  abbrev three : List Fixup
+  three = fixups_in false (ends_at false (off + n) k) names back
+
+  code_fixups : fixups_in false start names ls ≡ one ++ (two ++ three)
+  unfolding fixups_in
+  code_fixups = fixups_append false start names front (line ∷ back)
+      ∙ ap (λ fs. one ++ fs) (ap (λ e. fixups_in false e names (line ∷ back)) (ends_here front code)
+      ∙ ap (λ s. fixups_of false off names (use_of s) ++ fixups_in false (ends_at (data_after false s) (off + length (bytes_of s)) k) names
+      back) is)
+
+  -- each fixup of an object is one of a line of its code, or beside its bytes
+  pub all_beside : AreFit ls → AllByRecursion (IsBeside off n (own_fixup off names i name)) (object_in ls).fixups
+  unfolding object_in
+  all_beside fit =
+      let known : Knows names ls = known_in [] ls in
+      let rest_fit = all_back LineFits front (line ∷ back) fit in
+      let rest_known = all_back (KnowsLine names) front (line ∷ back) known in
+      let B : Fixup → Type 0 = IsBeside off n (own_fixup off names i name) in
+      let first = each_of (IsWithin 1 0 (0 + off)) B one (λ f h. inr (inl (h.0, omega arith)))
+      (code_between false 0 0 names front (all_front LineFits front (line ∷ back) fit)
+      (all_front (KnowsLine names) front (line ∷ back) known)) in
+      let second = each_of (λ f. own_fixup off names i name ≡ Some f) B two (λ f h. inr (inr (inr h))) (own_is off names i name) in
+      let third = each_of (IsWithin 1 (off + n) (off + n + length (section_of false false back))) B three
+      (λ f h. inr (inr (inl (h.0, h.1.0)))) (code_between false (off + n) k names back rest_fit.1 rest_known.1) in
+      let last = each_of (IsWithin 2 0 (length (section_of true false ls))) B (fixups_in true start names ls) (λ f h. inl h.0)
+      (section_all true 0 0 (section_of true false ls) names (fixups_in true start names ls) (omega arith)
+      (are_fixups true false 0 0 names ls [] refl fit known)) in
+      all_append B (fixups_in false start names ls) (fixups_in true start names ls)
+      (subst (AllByRecursion B) (sym code_fixups) (all_append B one (two ++ three) first (all_append B two three second third))) last
+
+  -- and that of the line is one of them
+  pub own_there : (f : Fixup) → Contains two f → Contains (object_in ls).fixups f
+  unfolding object_in
+  own_there f there =
+      Contains-append_left (fixups_in false start names ls) (fixups_in true start names ls) f
+      (subst (λ fs. Contains fs f) (sym code_fixups) (Contains-append_right one (two ++ three) f (Contains-append_left two three f there)))
 
 -- ---- relocations beside a line
 

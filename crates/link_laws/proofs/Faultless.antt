@@ -1,17 +1,15 @@
 -- One object alone in the linker's layout: no fault comes of it, and the image is the one that it was listed from.
-use Rattle.link_laws.proofs.Common.{same_name, le-leb, ◌≡◌, ℕ, ◌%◌, ◌<◌, ◌≤◌, List, [], ◌∷◌, ◌++◌, length, map, Some, None, Ok, Bool, true}
-use Rattle.link_laws.proofs.Common.{false, not, cond, ◌&&◌, refl, sym, ap, subst, ◌∙◌, arith, append-nil, bytes_eq, nat_eq, nat_le, nat_lt}
-use Rattle.link_laws.proofs.Common.{if◌then◌else◌, AllByRecursion, filter, find, option_or, and_from, and_parts, or_from, or_parts}
-use Rattle.link_laws.proofs.Common.{nat_tests, list_any-append, cond_both, cases_Bool, or_cases, ⊎_elim, is_named, Fixup, Object, Symbol}
-use Rattle.link_laws.proofs.Common.{Image, LinkPlan, Laid, place_in, places_of, Definition, definition_in, definitions, first_again}
-use Rattle.link_laws.proofs.Common.{first_in, is_definition, names_of, place_of, entry_in, linked_image, links_laid, other_way, Apart}
-use Rattle.link_laws.proofs.Common.{is_undefined, undefined_in, far_in, is_near, is_entry, ◌+◌, ◌-◌, file_sections, next_place}
-use Rattle.link_laws.proofs.Common.{reloc_section, reloc_sections, rounded, zeros, linked_sections, Section, code_end, code_start}
-use Rattle.link_laws.proofs.Common.{contents_start, homes_from, homes_of, laid_objects, contents_of, relocs_of, contents_from, section_from}
-use Rattle.link_laws.proofs.Common.{text_from}
-use Rattle.std.specs.Option.{option_map}
-use Rattle.pe_image.specs.Conditions.{most}
-use Rattle.link_laws.proofs.Lists.{all_kept, all_map, all_of, each_of, fails_of, find_none, none_passes}
+use Rattle.link_laws.proofs.Common.{AllByRecursion, contents_from, contents_start, linked_sections, list_any-append, Object, reloc_sections}
+use Rattle.link_laws.proofs.Common.{ap, not, sym, take, true, w64, [], ◌%◌, ◌++◌, ◌+◌, ◌-◌, ◌<◌, ◌^◌, ◌∙◌, ◌∷◌, ◌≡◌}
+use Rattle.link_laws.proofs.Common.{Apart, arith, Bool, false, find, Fixup, Image, Laid, Line, List, nat_eq, None, refl, Some, subst, zeros}
+use Rattle.link_laws.proofs.Common.{append-nil, code_start, Definition, definitions, first_again, homes_from, map, name_number, to_le_bytes}
+use Rattle.link_laws.proofs.Common.{bytes_eq, code_end, entry_in, first_in, get_name, LinkPlan, same_name, symbol_of, target_of, text_from}
+use Rattle.link_laws.proofs.Common.{bytes_for, cond_both, label_text, names_with, nat_tests, next_place, other_way, places_of, relocs_of, ℕ}
+use Rattle.link_laws.proofs.Common.{contents_of, laid_objects, linked_image, section_from, section_kind, Symbol, symbol_place, undefined_in}
+use Rattle.link_laws.proofs.Common.{defined_place, definition_in, file_sections, if◌then◌else◌, is_definition, is_undefined, reloc_section}
+use Rattle.link_laws.proofs.Common.{far_in, filter, homes_of, is_entry, is_named, is_near, length, names_of, place_in, rounded, value_of}
+use Rattle.link_laws.proofs.Lists.{all_map, all_of, each_of, find_none, map_twice}
+use Rattle.link_laws.proofs.{OneLinked.one_image, OneLinked.one_size, Taken.IsPlaced}
 use Rattle.ebc_link.specs.Fixups.{code_of}
 
 -- ---- searches
@@ -48,8 +46,7 @@ pub none_again : (before ns : List (List ℕ)) → Apart ns → AllByRecursion (
 unfolding first_again
 none_again before [] apart new = refl
 none_again before (n ∷ ns) apart new =
-    ap (λ b. if b then Some n else first_again (before ++ n ∷ []) ns) new.0
-    ∙ none_again (before ++ n ∷ []) ns apart.1 (more_before n before ns new.1 apart.0)
+    grind (arith, new.0, none_again (before ++ n ∷ []) ns apart.1 (more_before n before ns new.1 apart.0))
 
 -- the names of definitions are some of the names of symbols
 pub defined_names : (h : Laid) (f : List ℕ → Symbol) (ns : List (List ℕ)) → ((n : List ℕ) → (f n).name ≡ n)
@@ -112,15 +109,6 @@ sole_entry l f name ns symbols named there same is =
 
 -- ---- the image
 
--- Where there is no fault, objects are linked.
-pub linked : (plan : LinkPlan) (ls : List Laid) (contents entry : ℕ) (image : Image)
-    → first_again [] (names_of (definitions ls)) ≡ None → first_in (undefined_in (definitions ls)) ls ≡ None
-    → first_in (far_in (definitions ls)) ls ≡ None → first_in (entry_in plan.entry) ls ≡ Some entry
-    → linked_image plan (definitions ls) ls contents entry ≡ image → image.size ≤ most → links_laid plan ls contents ≡ Ok image
-unfolding links_laid
-linked plan ls contents entry image twice undefined far found is small =
-    rw (twice, undefined, far, found) (rw is (rw (le-leb image.size most small) refl))
-
 -- one object, and where it stands
 abbrev pub sole : Object → Laid
 sole o = record { object = o; home = record { code = 0x1000; contents = rounded 0x1000 (0x1000 + length o.code) } }
@@ -147,17 +135,6 @@ sole_contents bytes o =
     ap (λ n. zeros (rounded 0x1000 (0x1000 + length o.code) - n) ++ (bytes (sole o) ++ [])) (start_is o)
     ∙ nothing_between (rounded 0x1000 (0x1000 + length o.code)) (bytes (sole o))
 
--- An image by its parts.
-abbrev made : ℕ → ℕ → ℕ → List Section → List ℕ → ℕ → Image
-made base entry subsystem sections relocs size = record {
-  base = base;
-  entry = entry;
-  size = size;
-  subsystem = subsystem;
-  sections = sections;
-  relocs = relocs;
-}
-
 pub image_again :
     (plan : LinkPlan) (o : Object) (image : Image) (text contents : List ℕ) → plan.base ≡ image.base → plan.subsystem ≡ image.subsystem →
     image.sections ≡ linked_sections text contents → image.size ≡ next_place (file_sections image) 0x1000 →
@@ -167,7 +144,52 @@ pub image_again :
 unfolding linked_image file_sections reloc_sections reloc_section
 image_again plan o image text contents base subsystem sections size code behind relocs =
     let ds = definitions (sole o ∷ []) in
-    let contents_is : contents_from (contents_of plan.base ds) (contents_start (o ∷ [])) (sole o ∷ []) ≡ contents = sole_contents
-    (contents_of plan.base ds) o ∙ behind in
-    rw (sole_text (code_of plan.base ds) o ∙ code, contents_is, relocs, base, subsystem, ← sections)
-    (ap (λ n. made image.base image.entry image.subsystem image.sections image.relocs n) (sym size))
+    let one = linked_image plan ds (sole o ∷ []) (contents_start (o ∷ [])) image.entry in
+    let code_is = sole_text (code_of plan.base ds) o ∙ code in
+    let contents_is : contents_from (contents_of plan.base ds) (contents_start (o ∷ [])) (sole o ∷ []) ≡ contents =
+    sole_contents (contents_of plan.base ds) o ∙ behind in
+    let same : one.sections ≡ image.sections = rw (code_is, contents_is) (sym sections) in
+    one_image one image base refl (one_size one image same relocs ∙ sym size) subsystem same relocs
+
+-- ---- where a symbol stands once its object does
+
+-- The label of a place is a name of lines, and stands there.
+pub record LabelStands (ls : List Line) (h : Laid) (y : ℕ) : Type 0 where
+  pub known : is_named (label_text y) (names_with [] ls) ≡ true
+  pub there : nat_eq (symbol_of ls (label_text y)).kind 0 ≡ false
+  pub place : place_in h.home (symbol_of ls (label_text y)).kind (symbol_of ls (label_text y)).offset ≡ y
+
+home_place : (h : Laid) (d : Bool) (s n y : ℕ) → (if d then h.home.contents else h.home.code) ≡ s → s + n ≡ y
+    → place_in h.home (section_kind d) n ≡ y
+home_place h d s n y at is = grind arith
+
+some_kind : (d : Bool) → nat_eq (section_kind d) 0 ≡ false
+some_kind d = grind arith
+
+pub stands_at : (ls : List Line) (h : Laid) (d : Bool) (s y : ℕ) → IsPlaced ls d s y → (if d then h.home.contents else h.home.code) ≡ s
+    → LabelStands ls h y
+stands_at ls h d s y p at = record {
+  known = p.known;
+  there = ap (λ k. nat_eq k 0) p.kind ∙ some_kind d;
+  place = ap (λ k. place_in h.home k (symbol_of ls (label_text y)).offset) p.kind
+      ∙ home_place h d s (symbol_of ls (label_text y)).offset y at p.offset;
+}
+
+-- ---- what a fixup fills in
+
+pub target_is : (ds : List Definition) (l : Laid) (ls : List Line) (f : Fixup) (y : ℕ)
+    → l.object.symbols ≡ map (symbol_of ls) (names_with [] ls) → f.symbol ≡ name_number (label_text y) (names_with [] ls)
+    → LabelStands ls l y → target_of (places_of ds l) f ≡ y
+unfolding places_of
+target_is ds l ls f y symbols number st =
+    let ns : List (List ℕ) = names_with [] ls in
+    let place : Symbol → ℕ = symbol_place ds l.home in
+    let s : Symbol = symbol_of ls (label_text y) in
+    rw (symbols, number, map_twice place (symbol_of ls) ns, get_name (λ n. place (symbol_of ls n)) 0 (label_text y) ns st.known)
+    (ap (λ b. if b then defined_place ds s.name else place_in l.home s.kind s.offset) st.there ∙ st.place)
+
+pub bytes_are : (base : ℕ) (places : List ℕ) (l : Laid) (f : Fixup) (n t : ℕ) → f.kind ≡ 5 → target_of places f ≡ t → base + t ≡ n
+    → n < 2 ^ 64 → bytes_for base places l.home f ≡ to_le_bytes w64 n
+unfolding bytes_for value_of
+bytes_are base places l f n t five target is low =
+    rw five (ap (λ m. take 8 (to_le_bytes w64 m)) (ap (λ m. (base + m) % 2 ^ 64) target ∙ omega (arith, is, low)))

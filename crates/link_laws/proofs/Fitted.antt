@@ -1,13 +1,12 @@
 -- An instruction of a line that is read has a spelling, and its name, if any, stands where one may.
-use Rattle.link_laws.proofs.Common.{cond_both, ◌≡◌, inl, inr, ℕ, List, [], ◌∷◌, Option, Some, None, Result, Ok, Err, Bool, true, false}
-use Rattle.link_laws.proofs.Common.{refl, subst, cond, option_map, if◌then◌else◌, ◌==◌, ◌&&◌, ◌>>=◌, Insn, Size, AsmFault, InsnFits, Line}
-use Rattle.link_laws.proofs.Common.{⊤, IfOk, or_else, is_name, Form, Directive, FormFits, bits_at, call_form, compare_form}
-use Rattle.link_laws.proofs.Common.{compare_imm_form, form_of, jump_end, jump_form, move_form, move_imm_form, move_imm_letters}
-use Rattle.link_laws.proofs.Common.{move_letters, other_form, relative_letter, signed_form, stem_form, stem_of, Statement, directed}
-use Rattle.link_laws.proofs.Common.{directive_of, instruction, name, starts_point, statement_of, trim, trim_front, until, without_comment}
-use Rattle.link_laws.proofs.Common.{is_empty, word_part, both, insn_in, insn_of, line_in, parted, statement_in, any_ok, insn_fits}
-use Rattle.link_laws.proofs.Common.{kept_both, kept_made}
 use Rattle.std.specs.Prelude.{option_and_then}
+use Rattle.link_laws.proofs.Common.{any_ok, Bool, both, false, Form, IfOk, Insn, Line, List, None, parted, Size, Some, subst, until, ◌>>=◌}
+use Rattle.link_laws.proofs.Common.{AsmFault, bits_at, FormFits, InsnFits, jump_form, kept_both, kept_made, move_form, stem_form, word_part}
+use Rattle.link_laws.proofs.Common.{call_form, cond_both, Directive, insn_fits, option_map, other_form, signed_form, Statement, trim_front}
+use Rattle.link_laws.proofs.Common.{compare_form, directive_of, instruction, move_letters, Option, starts_point, statement_in, statement_of}
+use Rattle.link_laws.proofs.Common.{compare_imm_form, Err, if◌then◌else◌, move_imm_form, move_imm_letters, relative_letter, without_comment}
+use Rattle.link_laws.proofs.Common.{cond, inl, inr, name, refl, trim, true, [], ℕ, ⊤, ◌&&◌, ◌==◌, ◌∷◌, ◌≡◌}
+use Rattle.link_laws.proofs.Common.{directed, form_of, insn_in, insn_of, is_empty, is_name, jump_end, line_in, Ok, or_else, Result, stem_of}
 use Rattle.ebc_insn.specs.declared.Size.TheVariants as sizes
 use Rattle.asm_text.specs.declared.form.Form.TheVariants as forms
 use Rattle.asm_text.specs.declared.directive.Directive.TheVariants as directives
@@ -59,10 +58,9 @@ imm_letters_fit (s ∷ w ∷ []) = search (then_fits, move_imm_fits)
 imm_letters_fit xs = tt
 
 relative_fits : (s : List ℕ) → FitsForm (relative_letter s)
-relative_fits [] = tt
 relative_fits (w ∷ []) =
     bits_by w (λ o. FitsForm (option_map (λ bits. forms.MoveRelative bits) o)) (inl refl) (inr (inl refl)) (inr (inr refl)) tt
-relative_fits (w ∷ x ∷ rest) = tt
+relative_fits xs = tt
 
 jump_end_fits : (far : Bool) (s : List ℕ) → FitsForm (jump_end far s)
 jump_end_fits far [] = tt
@@ -74,14 +72,12 @@ jump_fits (b ∷ []) = search if_fits
 jump_fits (b ∷ c ∷ rest) = search (if_fits, map_fits, then_fits, jump_end_fits)
 
 call_fits : (s : List ℕ) → FitsForm (call_form s)
-call_fits [] = tt
-call_fits (b ∷ []) = tt
 call_fits (b ∷ c ∷ rest) = search (if_fits, then_fits) depth 12
+call_fits xs = tt
 
 compare_fits : (s : List ℕ) → FitsForm (compare_form s)
-compare_fits [] = tt
-compare_fits (b ∷ []) = tt
 compare_fits (b ∷ c ∷ rest) = search (map_fits, then_fits)
+compare_fits xs = tt
 
 compare_imm_fits : (s : List ℕ) → FitsForm (compare_imm_form s)
 compare_imm_fits (b ∷ c ∷ d ∷ rest) = search (map_fits, then_fits)

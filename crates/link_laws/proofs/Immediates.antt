@@ -1,9 +1,9 @@
 -- The bytes of an instruction in which a name may stand: zeros, or a number in its place.
-use Rattle.link_laws.proofs.Common.{◌≡◌, ℕ, List, [], ◌∷◌, ◌++◌, true, refl, sym, subst, arith, append-nil, replicate, nat_tests, w64}
-use Rattle.link_laws.proofs.Common.{to_le_bytes, Insn, Imm, WellFormed, code_of, field_bytes, int_raw, optional_field, spelling}
-use Rattle.link_laws.proofs.Common.{takes_label, without_immediate, ◌⊎◌, inl, inr, ◌*◌, ◌^◌, ◌<◌, ◌%◌, Bool, false, ap, ◌∙◌, Option, take}
-use Rattle.link_laws.proofs.Common.{ℤ, pos, Cond, Operand, Size, TargetFits, signed_at, signed_whole, TakesName, immediate_size}
-use Rattle.link_laws.proofs.Common.{with_immediate, Index, FitsInt, signed_fits}
+use Rattle.link_laws.proofs.Common.{ap, Imm, inl, inr, List, pos, refl, sym, take, true, w64, [], ◌*◌, ◌++◌, ◌<◌, ◌^◌, ◌∙◌, ◌∷◌, ◌≡◌, ◌⊎◌}
+use Rattle.link_laws.proofs.Common.{append-nil, nat_tests, Option, replicate, signed_fits, takes_label, TargetFits, to_le_bytes, WellFormed}
+use Rattle.link_laws.proofs.Common.{arith, Bool, code_of, Cond, false, FitsInt, Index, Insn, int_raw, Operand, signed_at, spelling, subst}
+use Rattle.link_laws.proofs.Common.{field_bytes, immediate_size, optional_field, signed_whole, TakesName, with_immediate, without_immediate}
+use Rattle.link_laws.proofs.Common.{ℕ, ℤ}
 use Rattle.ebc_insn.specs.Spelling.{bytes_of}
 use Rattle.ebc_insn.specs.declared.Insn.TheVariants as insns
 use Rattle.ebc_insn.specs.declared.Size.TheVariants as sizes

@@ -1,13 +1,12 @@
 -- What is listed at a place: the first of four that applies. It has the bytes of the place, but for those that a label stands for.
-use Rattle.link_laws.proofs.Common.{get_or_append_left, ◌≡◌, ℕ, zero, suc, ◌+◌, ◌*◌, ◌/◌, ◌%◌, ◌<◌, ◌≤◌, List, [], ◌∷◌, ◌++◌, length}
-use Rattle.link_laws.proofs.Common.{get_or, take, replicate, Option, Some, None, Result, Ok, Err, Bool, true, false, not, cond, ◌&&◌, ◌||◌}
-use Rattle.link_laws.proofs.Common.{refl, sym, ap, ◌∙◌, arith, ⊎_elim, length-append, length-take-le, nat_le, option_map, nat_eq, find}
-use Rattle.link_laws.proofs.Common.{list_all, list_any, option_and_then, option_or, unwrap_or, w64, to_le_bytes, cases_lt, cond_both}
-use Rattle.link_laws.proofs.Common.{eqb-true, or_left, IfSome, nat_tests, get_or-take, Insn, Spells, field_bytes, int_raw, spelling}
-use Rattle.link_laws.proofs.Common.{DecodeFault, read, read_length, read_spells, IsBytes, signed_whole, Listed, listed_line, signed_at}
-use Rattle.link_laws.proofs.Common.{bytes_of, is_of, Image, byte_at, if_whole, insn_at, is_cut, is_of_immediate, is_whole, item_at}
-use Rattle.link_laws.proofs.Common.{label_before, label_lines, labels, lies_on, named, place_at, takes_label, with_label, without_immediate}
-use Rattle.link_laws.proofs.Common.{word_at, is_some}
+use Rattle.link_laws.proofs.Common.{ap, Err, not, sym, w64, [], ◌%◌, ◌*◌, ◌+◌, ◌/◌, ◌<◌, ◌∙◌, ◌∷◌, ◌≡◌, ◌≤◌}
+use Rattle.link_laws.proofs.Common.{arith, get_or, Image, is_cut, labels, length, Listed, nat_eq, nat_le, Option, Result, Spells, ℕ, ⊎_elim}
+use Rattle.link_laws.proofs.Common.{Bool, cond, false, find, Insn, is_of, List, named, None, read, refl, Some, take, true, ◌&&◌, ◌++◌, ◌||◌}
+use Rattle.link_laws.proofs.Common.{byte_at, insn_at, int_raw, is_some, IsBytes, item_at, lies_on, Ok, or_left, place_at, spelling, word_at}
+use Rattle.link_laws.proofs.Common.{bytes_of, cases_lt, eqb-true, if_whole, is_whole, list_all, list_any, replicate, signed_at, unwrap_or}
+use Rattle.link_laws.proofs.Common.{cond_both, IfSome, nat_tests, option_or, read_length, read_spells, takes_label, to_le_bytes, with_label}
+use Rattle.link_laws.proofs.Common.{DecodeFault, field_bytes, get_or-take, label_before, label_lines, listed_line, option_map, signed_whole}
+use Rattle.link_laws.proofs.Common.{get_or_append_left, is_of_immediate, length-append, length-take-le, option_and_then, without_immediate}
 use Rattle.link_laws.proofs.{Immediates.EndsWith, Immediates.labels_fill, Lists.all_at, Lists.found_in, Lists.passes_of}
 use Rattle.asm_text.specs.declared.listing.Listed.TheVariants as listed
 
@@ -84,14 +83,14 @@ item_is image code x b bytes =
 -- what holds of the labels of a place, whichever are listed
 pub labels_by : (image : Image) (x : ℕ) (P : List Listed → Type 0)
     → (x ≡ image.entry → list_any (nat_eq x) (labels image) ≡ true → P (listed.Global x ∷ listed.Label x ∷ []))
-    → (list_any (nat_eq x) (labels image) ≡ true → P (listed.Label x ∷ [])) → (list_any (nat_eq x) (labels image) ≡ false → P [])
-    → P (label_lines image x)
+    → (nat_eq x image.entry ≡ false → list_any (nat_eq x) (labels image) ≡ true → P (listed.Label x ∷ []))
+    → (list_any (nat_eq x) (labels image) ≡ false → P []) → P (label_lines image x)
 unfolding label_lines labels
 labels_by image x P entry some none =
     cond_both (nat_eq x image.entry) (listed.Global x ∷ listed.Label x ∷ [])
     (cond (list_any (nat_eq x) (labels image)) (listed.Label x ∷ []) []) P
     (λ e. entry (eqb-true x image.entry e) (or_left _ _ e))
-    (λ e. cond_both (list_any (nat_eq x) (labels image)) (listed.Label x ∷ []) [] P some none)
+    (λ o. cond_both (list_any (nat_eq x) (labels image)) (listed.Label x ∷ []) [] P (some o) none)
 
 -- ---- relocations
 
@@ -133,23 +132,35 @@ insn_plain image x bytes i n each is =
       same = λ k low free. ap (λ bs. get_or bs k 0) (sym spells.same_bytes) ∙ get_or-take n bytes k 0 low;
     }
 
-insn_labelled : (image : Image) (x : ℕ) (bytes : List ℕ) (i : Insn) (n target r : ℕ) → IsBytes bytes → read bytes ≡ Ok (i, n)
-    → takes_label i ≡ true →
-    find (λ r. nat_eq (r + 8) (x + n)) image.relocs ≡ Some r → ItemOf image x bytes (
-      listed.Instruction (without_immediate i)
-          (Some target),
-      n,
-    )
-insn_labelled image x bytes i n target r each is takes found =
-    let size = read_length bytes i n is in
+-- What is read of an instruction in which a label may stand ends with eight bytes of a number.
+pub record LabelEnds (bytes : List ℕ) (i : Insn) (n : ℕ) : Type 0 where
+  pub ends : EndsWith i
+  pub whole : take n bytes ≡ ends.front ++ to_le_bytes w64 ends.value
+  pub count : length ends.front + 8 ≡ n
+  pub long : length (spelling (without_immediate i)) ≡ n
+
+pub label_ends : (bytes : List ℕ) (i : Insn) (n : ℕ) → IsBytes bytes → read bytes ≡ Ok (i, n) → takes_label i ≡ true
+    → LabelEnds bytes i n
+label_ends bytes i n each is takes =
     let spells : Spells (take n bytes) i = read_spells bytes i n each is in
     let ends : EndsWith i = labels_fill i spells.well_formed takes in
+    let whole : take n bytes ≡ ends.front ++ to_le_bytes w64 ends.value = spells.same_bytes ∙ ends.whole in
+    let size = length-take-le n bytes (read_length bytes i n is).1 in
+    let count : length ends.front + 8 ≡ n = omega (arith, simp length-append at (ap length whole), size) in
+    record { ends = ends; whole = whole; count = count; long = ap length ends.blank ∙ (length-append ends.front (replicate 8 0) ∙ count) }
+
+insn_labelled : (image : Image) (x : ℕ) (bytes : List ℕ) (i : Insn) (n target r : ℕ) → IsBytes bytes → read bytes ≡ Ok (i, n)
+    → takes_label i ≡ true → find (λ r. nat_eq (r + 8) (x + n)) image.relocs ≡ Some r
+    → ItemOf image x bytes (listed.Instruction (without_immediate i) (Some target), n)
+insn_labelled image x bytes i n target r each is takes found =
+    let size = read_length bytes i n is in
+    let it = label_ends bytes i n each is takes in
+    let ends = it.ends in
     let front : List ℕ = ends.front in
-    let whole : take n bytes ≡ front ++ to_le_bytes w64 ends.value = spells.same_bytes ∙ ends.whole in
-    let count : length front + 8 ≡ n = sym (length-append front (to_le_bytes w64 ends.value)) ∙ (ap length (sym whole)
-    ∙ length-take-le n bytes size.1) in
+    let whole = it.whole in
+    let count = it.count in
     record {
-      long = ap length ends.blank ∙ (length-append front (replicate 8 0) ∙ count);
+      long = it.long;
       some = omega (arith, size.0);
       within = size.1;
       same = λ k low free. ⊎_elim
@@ -161,30 +172,24 @@ insn_labelled image x bytes i n target r each is takes found =
           (cases_lt k (length front));
     }
 
-word_of : (image : Image) (x b c : ℕ) (bytes : List ℕ) → b < 256 → c < 256 → ItemOf image x (b ∷ c ∷ bytes) (listed.Word (b + 256 * c), 2)
+-- a line of a number, which has the bytes that stand there
+plain_of : (image : Image) (x : ℕ) (l : Listed) (front rest : List ℕ) → line_bytes l ≡ front → 1 ≤ length front
+    → ItemOf image x (front ++ rest) (l, length front)
+plain_of image x l front rest is some = record {
+  long = ap length is;
+  some = some;
+  within = omega (arith, length-append front rest);
+  same = λ k low free. ap (λ bs. get_or bs k 0) is ∙ sym (get_or_append_left front rest 0 k low);
+}
+
+word_bytes : (b c : ℕ) → b < 256 → c < 256 → line_bytes (listed.Word (b + 256 * c)) ≡ b ∷ c ∷ []
 unfolding field_bytes
-word_of image x b c bytes low high =
+word_bytes b c low high =
     let n : ℕ = b + 256 * c in
     let raw : int_raw 16 (signed_at 16 n) ≡ n = signed_whole 16 n (omega arith) (omega (arith, low, high)) in
     let first : n % 256 ≡ b = omega (arith, low) in
     let second : n / 256 % 256 ≡ c = omega (arith, low, high) in
-    let is : line_bytes (listed.Word n) ≡ b ∷ c ∷ [] = rw (raw, first, second) refl in
-    record {
-      long = ap length is;
-      some = omega arith;
-      within = omega arith;
-      same = λ k small free. ap (λ bs. get_or bs k 0) is ∙ sym (get_or_append_left (b ∷ c ∷ []) bytes 0 k small);
-    }
-
-byte_of : (image : Image) (x b : ℕ) (bytes : List ℕ) → b < 256 → ItemOf image x (b ∷ bytes) (listed.Byte b, 1)
-byte_of image x b bytes low =
-    let is : line_bytes (listed.Byte b) ≡ b ∷ [] = ap (λ m. m ∷ []) (signed_whole 8 b (omega arith) (omega (arith, low))) in
-    record {
-      long = ap length is;
-      some = omega arith;
-      within = omega arith;
-      same = λ k small free. ap (λ bs. get_or bs k 0) is ∙ sym (get_or_append_left (b ∷ []) bytes 0 k small);
-    }
+    rw (raw, first, second) refl
 
 label_case : (image : Image) (x : ℕ) (bytes : List ℕ) (i : Insn) (n : ℕ) (f o : Option ℕ) → IsBytes bytes → read bytes ≡ Ok (i, n)
     → o ≡ option_and_then (named image) f → ((r : ℕ) → f ≡ Some r → takes_label i ≡ true)
@@ -207,5 +212,7 @@ item_of image code x _ _ (insn_here bytes i n in_code is cut all) each =
     let found : Option ℕ = find (λ r. nat_eq (r + 8) (x + n)) image.relocs in
     label_case image x bytes i n found (option_and_then (named image) found) each is refl
     (λ r here. label_taken image i x n image.relocs r (read_length bytes i n is).0 all here) refl
-item_of image code x _ _ (word_here b c rest cut free) each = word_of image x b c rest (each 0) (each 1)
-item_of image code x _ _ (byte_here b rest none) each = byte_of image x b rest (each 0)
+item_of image code x _ _ (word_here b c rest cut free) each =
+    plain_of image x (listed.Word (b + 256 * c)) (b ∷ c ∷ []) rest (word_bytes b c (each 0) (each 1)) (omega arith)
+item_of image code x _ _ (byte_here b rest none) each =
+    plain_of image x (listed.Byte b) (b ∷ []) rest (ap (λ m. m ∷ []) (signed_whole 8 b (omega arith) (omega (arith, each 0)))) (omega arith)

@@ -10,7 +10,6 @@ pub mod Taken
 pub mod Listings
 pub mod Relocs
 pub mod Objects
-pub mod Filling
 pub mod Faultless
 pub mod Again
 pub mod Immediates

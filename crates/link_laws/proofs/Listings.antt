@@ -1,22 +1,22 @@
 -- The listing of an image in the linker's layout: its lines, their texts, and the source that they are.
-use Rattle.link_laws.proofs.Common.{◌≡◌, ℕ, List, [], ◌∷◌, ◌++◌, map, Some, true, not, ◌==◌, refl, ap, ◌∙◌, append_assoc, codes, All}
-use Rattle.link_laws.proofs.Common.{All-head, All-tail, and_from, Listed, label_text, hex_text, ListedFits, listed_text, text_of}
-use Rattle.link_laws.proofs.Common.{list_all-append, lacks, line_cut, lines_of, clean, clean_append, clean_hex, clean_lacks, text_good}
-use Rattle.link_laws.proofs.Common.{until_first, ◌+◌, ◌-◌, ◌/◌, ◌%◌, ◌^◌, ◌<◌, ◌≤◌, length, Bool, false, Ok, sym, subst, arith, append-nil}
-use Rattle.link_laws.proofs.Common.{nat_eq, AllByRecursion, flat_map, list_any, or_from, nat_tests, flat_map-append, map-append}
-use Rattle.link_laws.proofs.Common.{All-from_recursion, all_append, IsBytes, most, listed_line, ends_in_data, section_of, behind_ok, behind}
-use Rattle.link_laws.proofs.Common.{is_defined, lines_behind, object_in, object_of, is_labelled, Image, next_place, rounded, zeros}
-use Rattle.link_laws.proofs.Common.{linked_sections, section_if, text_sections, label_lines, labels, Line, Section, lines_from, listing_of}
-use Rattle.link_laws.proofs.Common.{heading, section_lines}
 use Rattle.std.proofs.Common.{unwrap_or}
+use Rattle.link_laws.proofs.Bodies.{AreLow, heads_of, is_head, IsLabelled, IsLine, lines_are}
+use Rattle.link_laws.proofs.Common.{All, append_assoc, clean_append, ends_in_data, lines_behind, makes_global, section_lines, text_sections}
+use Rattle.link_laws.proofs.Common.{All-from_recursion, AllByRecursion, flat_map-append, linked_sections, list_all-append, list_any-append}
+use Rattle.link_laws.proofs.Common.{All-head, All-tail, and_from, behind_ok, clean_hex, nat_tests, object_in, object_of, Section, text_good}
+use Rattle.link_laws.proofs.Common.{all_append, append-nil, clean_lacks, is_labelled, listed_line, listed_text, ListedFits, Ok, until_first}
+use Rattle.link_laws.proofs.Common.{ap, map, most, not, refl, sym, true, [], ◌%◌, ◌++◌, ◌+◌, ◌-◌, ◌/◌, ◌<◌, ◌==◌, ◌^◌, ◌∙◌, ◌∷◌, ◌≡◌, ◌≤◌}
+use Rattle.link_laws.proofs.Common.{arith, Bool, clean, codes, false, Image, labels, lacks, length, Line, List, nat_eq, Some, subst, zeros}
+use Rattle.link_laws.proofs.Common.{behind, flat_map, heading, hex_text, line_cut, lines_of, list_any, Listed, or_left, rounded, text_of, ℕ}
+use Rattle.link_laws.proofs.Common.{is_defined, IsBytes, label_text, lines_from, listing_of, map-append, next_place, section_if, section_of}
+use Rattle.link_laws.proofs.PlaceLaws.{AreUncut, is_label_of, label_at, none_behind, Splits}
+use Rattle.link_laws.proofs.Taken.{AreTaken, IsFresh, IsPlaced, placed_at, Stand}
+use Rattle.link_laws.proofs.Taken.{code_stands, data_stands, defined_in, line_taken, lines_taken, section_taken, stand_more, taken_append}
+use Rattle.link_laws.proofs.{Lists.all_front, Lists.each_of, Sources.IsLowLabel, Sources.low_lines, Sources.source}
+use Rattle.link_laws.proofs.{Lists.none_append, SectionLaws.AreLines, SectionLaws.section_agrees, SectionLaws.walked, Sources.none_labelled}
 use Rattle.ebc_asm.proofs.SourceLaws.{next_lines}
+use Rattle.ebc_base.proofs.TableLaws.{list_any-map}
 use Rattle.ebc_disasm.specs.Listings.{lines_of as image_lines}
-use Rattle.link_laws.proofs.Taken.{AreTaken, IsFresh, Stand, data_behind, defined_in, lines_taken, section_taken, stand_more, taken_append}
-use Rattle.link_laws.proofs.Taken.{IsPlaced, code_stands, data_stands, placed_at}
-use Rattle.link_laws.proofs.{PlaceLaws.AreUncut, PlaceLaws.Splits, PlaceLaws.is_label_of, PlaceLaws.label_at, PlaceLaws.no_label}
-use Rattle.link_laws.proofs.{PlaceLaws.not_item, Lists.all_front, Lists.each_of, Lists.none_append, Lists.none_passes}
-use Rattle.link_laws.proofs.{SectionLaws.section_agrees, SectionLaws.IsStep, SectionLaws.walk, Bodies.AreLow, Bodies.IsLabelled}
-use Rattle.link_laws.proofs.{Bodies.IsLine, Bodies.is_head, Bodies.lines_are, Sources.IsLowLabel, Sources.none_labelled, Sources.source}
 use Rattle.asm_text.specs.declared.listing.Listed.TheVariants as listed
 use Rattle.asm_text.specs.Splits as splits
 
@@ -125,28 +125,6 @@ pub record IsShown (image : Image) (text contents : List ℕ) : Type 0 where
   pub entry_from : 0x1000 ≤ image.entry
   pub entry_to : image.entry < 0x1000 + length text
 
-fits_low : (l : Listed) → ListedFits l → IsLowLabel l
-fits_low (listed.Label y) h = h
-fits_low l h = tt
-
-heads_of : (image : Image) (code : Bool) (ls : List Listed) → AllByRecursion (IsLine image code) ls → list_any is_head ls ≡ false
-heads_of image code ls h = none_passes is_head ls (each_of (IsLine image code) (λ l. is_head l ≡ false) ls (λ l g. g.head) h)
-
-low_lines : (image : Image) (code : Bool) (ls : List Listed) → AllByRecursion (IsLine image code) ls → AllByRecursion IsLowLabel ls
-low_lines image code ls h = each_of (IsLine image code) IsLowLabel ls (λ l g. fits_low l g.fits) h
-
--- ---- no label of a place behind some bytes is among their lines
-
-abbrev NoLabels : ℕ → List ℕ → List Listed → Type 0
-NoLabels x bytes ls = (y : ℕ) → x + length bytes ≤ y → list_any (is_label_of y) ls ≡ false
-
-no_labels_step : (image : Image) (code : Bool) → IsStep image code NoLabels
-no_labels_step image code x b bytes rest l n each is item left later y far =
-    none_append (is_label_of y) (label_lines image x ++ l ∷ []) rest
-    (none_append (is_label_of y) (label_lines image x) (l ∷ []) (no_label image x y (omega (arith, far)))
-    (or_from _ _ (not_item image code x y (b ∷ bytes) (l, n) is) refl))
-    (later y (omega (arith, far)))
-
 -- all lines up to some of the data, as a source
 to_data : (ls before : List Listed)
     → (source (listed.Code ∷ ls) ++ source (listed.Data ∷ [])) ++ source before ≡ source (listed.Code ∷ (ls ++ listed.Data ∷ before))
@@ -186,11 +164,17 @@ module _ (image : Image) (text contents : List ℕ) (s : IsShown image text cont
   data_small : place + length contents ≤ 2 ^ 32
   data_small = omega arith
 
+  pub code_walked : AreLines image true 0x1000 text code
+  code_walked = walked image true 0x1000 text s.text_bytes
+
+  pub contents_walked : AreLines image false place contents contents_lines
+  contents_walked = walked image false place contents s.contents_bytes
+
   pub code_lines_are : AllByRecursion (IsLine image true) code
-  code_lines_are = lines_are image true 0x1000 text s.low small s.text_bytes
+  code_lines_are = lines_are image true s.low code_walked small
 
   pub contents_lines_are : AllByRecursion (IsLine image false) contents_lines
-  contents_lines_are = lines_are image false place contents s.low data_small s.contents_bytes
+  contents_lines_are = lines_are image false s.low contents_walked data_small
 
   pub code_heads : list_any is_head code ≡ false
   code_heads = heads_of image true code code_lines_are
@@ -212,23 +196,22 @@ module _ (image : Image) (text contents : List ℕ) (s : IsShown image text cont
   lines_fit = all_of_lines ListedFits tt tt (λ c l h. h.fits)
 
   -- no label of a place behind the code is among its lines
-  none_behind : (y : ℕ) → place ≤ y → list_any (is_label_of y) code ≡ false
-  none_behind y from =
-      walk image true NoLabels (λ z y far. refl) (no_labels_step image true) 0x1000 text s.text_bytes y (omega (arith, from))
+  none_in_code : (y : ℕ) → place ≤ y → list_any (is_label_of y) code ≡ false
+  none_in_code y from = none_behind image true code_walked y (omega (arith, from))
 
   -- ---- where labels stand
 
   -- the lines behind one of the code
-  text_split : (y : ℕ) (sp : Splits 0x1000 y code) → lines ≡ (listed.Code ∷ sp.before) ++ listed.Label y ∷ (sp.after ++ rest)
+  text_split : (y : ℕ) (sp : Splits image 0x1000 y code) → lines ≡ (listed.Code ∷ sp.before) ++ listed.Label y ∷ (sp.after ++ rest)
   text_split y sp =
       ap (λ ls. listed.Code ∷ (ls ++ rest)) sp.is ∙ ap (λ ls. listed.Code ∷ ls) (append_assoc sp.before (listed.Label y ∷ sp.after) rest)
 
-  text_label : (y : ℕ) → IsLabelled image y → 0x1000 ≤ y → y < 0x1000 + length text → Splits 0x1000 y code
-  text_label y here from to = label_at image true 0x1000 y text s.text_bytes s.uncut here from to
+  text_label : (y : ℕ) → IsLabelled image y → 0x1000 ≤ y → y < 0x1000 + length text → Splits image 0x1000 y code
+  text_label y here from to = label_at image true y s.uncut here code_walked from to
 
   pub text_placed : (y : ℕ) → IsLabelled image y → 0x1000 ≤ y → y < 0x1000 + length text → IsPlaced (source lines) false 0x1000 y
   text_placed y here from to =
-      let sp : Splits 0x1000 y code = text_label y here from to in
+      let sp : Splits image 0x1000 y code = text_label y here from to in
       let front = all_front (IsLine image true) sp.before (listed.Label y ∷ sp.after)
       (subst (AllByRecursion (IsLine image true)) sp.is code_lines_are) in
       subst (λ ls. IsPlaced (source ls) false 0x1000 y) (sym (text_split y sp))
@@ -239,14 +222,14 @@ module _ (image : Image) (text contents : List ℕ) (s : IsShown image text cont
 
   pub data_placed : (y : ℕ) → IsLabelled image y → place ≤ y → y < place + length contents → IsPlaced (source lines) true place y
   data_placed y here from to =
-      let sp : Splits place y contents_lines = label_at image false place y contents s.contents_bytes s.uncut here from to in
+      let sp : Splits image place y contents_lines = label_at image false y s.uncut here contents_walked from to in
       let front = all_front (IsLine image false) sp.before (listed.Label y ∷ sp.after)
       (subst (AllByRecursion (IsLine image false)) sp.is contents_lines_are) in
       let before : List Listed = code ++ listed.Data ∷ sp.before in
       let stands = subst (Stand true place y) (to_data code sp.before)
       (stand_more true place place y (source (listed.Code ∷ code) ++ source (listed.Data ∷ [])) sp.before
       (data_stands place code code_heads) (heads_of image false sp.before front) sp.long) in
-      let new = none_append (is_label_of y) code (listed.Data ∷ sp.before) (none_behind y from) sp.fresh in
+      let new = none_append (is_label_of y) code (listed.Data ∷ sp.before) (none_in_code y from) sp.fresh in
       let low = all_append IsLowLabel code (listed.Data ∷ sp.before) (low_lines image true code code_lines_are)
       (tt, low_lines image false sp.before front) in
       let placed = placed_at true place y (listed.Code ∷ before) sp.after (omega (arith, to, data_small)) (tt, low) new stands in
@@ -260,17 +243,18 @@ module _ (image : Image) (text contents : List ℕ) (s : IsShown image text cont
   data_taken : (texts : List (List ℕ)) → is_defined texts (label_text image.entry) ≡ true
       → AreTaken texts (source (listed.Code ∷ code)) (source rest)
   data_taken texts known =
-      let long = (section_agrees image true 0x1000 text s.text_bytes).long in
+      let long = (section_agrees image true code_walked).long in
       let before : List Line = source (listed.Code ∷ code) ++ source (listed.Data ∷ []) in
       let stands = stand_more false 0x1000 0x1000 (0x1000 + length text) (source (listed.Code ∷ [])) code (code_stands 0x1000) code_heads
       (omega (arith, long)) in
       let fresh : IsFresh place before = λ y from below.
       none_append (is_labelled (label_text y)) (source (listed.Code ∷ code)) (source (listed.Data ∷ []))
-      (none_labelled y (listed.Code ∷ code) below (tt, low_lines image true code code_lines_are) (none_behind y from)) refl in
+      (none_labelled y (listed.Code ∷ code) below (tt, low_lines image true code code_lines_are) (none_in_code y from)) refl in
       data_by image place contents (λ ls. AreTaken texts (source (listed.Code ∷ code)) (source ls)) (λ none. tt) (
-        data_behind texts false 0x1000 (0x1000 + length text) (source (listed.Code ∷ code)) stands (omega (arith, s.text_small)),
-        section_taken image texts false place contents before s.low known s.contents_bytes (data_stands place code code_heads) fresh
-            s.contents_small data_small,
+        line_taken texts false 0x1000 (0x1000 + length text) 0 (source (listed.Code ∷ code)) (listed_line listed.Data) stands
+            (omega (arith, s.text_small)) refl refl refl refl,
+        section_taken image texts false place s.low known contents_walked before (data_stands place code code_heads) fresh
+            (omega (arith, s.contents_small)) data_small,
       )
 
   all_taken : (texts : List (List ℕ)) → is_defined texts (label_text image.entry) ≡ true → AreTaken texts [] (source lines)
@@ -278,13 +262,22 @@ module _ (image : Image) (text contents : List ℕ) (s : IsShown image text cont
     code_behind texts,
     subst (AreTaken texts (source (listed.Code ∷ []))) (sym (map-append listed_line code rest))
         (taken_append texts (source (listed.Code ∷ [])) (source code) (source rest)
-        (section_taken image texts true 0x1000 text (source (listed.Code ∷ [])) s.low known s.text_bytes (code_stands 0x1000)
-        (λ y from below. refl) s.text_small small) (data_taken texts known)),
+        (section_taken image texts true 0x1000 s.low known code_walked (source (listed.Code ∷ [])) (code_stands 0x1000)
+        (λ y from below. refl) (omega (arith, s.text_small)) small) (data_taken texts known)),
   )
+
+  -- the lines make the entry global
+  pub entry_global : list_any (makes_global (label_text image.entry)) (source lines) ≡ true
+  entry_global =
+      let sp : Splits image 0x1000 image.entry code = text_label image.entry (entry_labelled image) s.entry_from s.entry_to in
+      let p : Listed → Bool = λ l. makes_global (label_text image.entry) (listed_line l) in
+      sym (list_any-map (makes_global (label_text image.entry)) listed_line lines)
+      ∙ (ap (list_any p) (text_split image.entry sp)
+      ∙ (list_any-append p sp.before (listed.Label image.entry ∷ (sp.after ++ rest)) ∙ or_left _ _ (sp.global refl)))
 
   entry_defined : is_defined (map listed_text lines) (label_text image.entry) ≡ true
   entry_defined =
-      let sp : Splits 0x1000 image.entry code = text_label image.entry (entry_labelled image) s.entry_from s.entry_to in
+      let sp : Splits image 0x1000 image.entry code = text_label image.entry (entry_labelled image) s.entry_from s.entry_to in
       ap (λ ls. is_defined (map listed_text ls) (label_text image.entry)) (text_split image.entry sp)
       ∙ defined_in (listed.Code ∷ sp.before) (sp.after ++ rest) image.entry (omega (arith, small))
 

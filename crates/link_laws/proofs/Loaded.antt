@@ -1,27 +1,23 @@
 -- The bytes of an image that is loaded at a base, and what is decoded there: an instruction of a source that it was linked from.
-use Rattle.link_laws.proofs.Common.{cases_Bool, distance_of}
-use Rattle.link_laws.proofs.Common.{List, Ok, Some, [], ap, arith, cond, false, get_or, length, subst, suc, sym, true, zero, ℕ, ◌%◌, ◌++◌}
-use Rattle.link_laws.proofs.Common.{◌+◌, ◌-◌, ◌/◌, ◌<◌, ◌^◌, ◌∙◌, ◌∷◌, ◌≡◌, ◌≤◌, AllByRecursion, Contains, find, AllPairs, nat_tests}
-use Rattle.link_laws.proofs.Common.{ext_get_or, WellFormed, spelling, Insn, little_endian, window, distance_of, read, pairs_tail, IsBelow}
-use Rattle.link_laws.proofs.Common.{is_of, laid, mapped, Image, option_map_or, get_or-window, length-window, window-append, read_again}
-use Rattle.link_laws.proofs.Common.{moved, moved_byte, laid_inside, Bool, inl, inr, None, Option, append_assoc, if◌then◌else◌}
-use Rattle.link_laws.proofs.Common.{length-append, length-take-le, map, refl, replicate, take, ℤ, ⊎_elim, ◌*◌, to_le_bytes, w64, All, codes}
-use Rattle.link_laws.proofs.Common.{◌==◌, bytes_eq, cases_lt, get_or-append-add, get_or-take, get_or_append_left, length-replicate}
-use Rattle.link_laws.proofs.Common.{length-map, recursion_from_All, same_Some, get_name, is_named, name_number, little_endian-below}
-use Rattle.link_laws.proofs.Common.{get_or-to_le_bytes, signed_at, IsObject, width, Fixup, Object, Symbol, InsnFits, TakesName, Line}
-use Rattle.link_laws.proofs.Common.{file_sections, next_place, reloc_sections, rounded, IsLinked, linked_sections, section_if}
-use Rattle.link_laws.proofs.Common.{text_sections, AreBytes, Section, line_fits, AreFit, ends_of, known_in, data_after, distance_kind}
-use Rattle.link_laws.proofs.Common.{ends_in_data, immediate_size, insn_use, is_distance, section_of, use_of, bytes_of, object_in, fixup_of}
-use Rattle.link_laws.proofs.Common.{fixups_in, from_of, names_with, start, symbol_of, place_of, Laid, laid_objects, Holds, Linked}
-use Rattle.link_laws.proofs.Common.{number_at, LinkPlan, with_immediate, slice_get, All-contains_itself, Contains-append_left}
-use Rattle.link_laws.proofs.Common.{Contains-append_right, get_or_from_slice_get, slice_get_within, slice_get-get_or, found_within, IsLaid}
-use Rattle.link_laws.proofs.Common.{laid-file, LineFits, KnowsUse, IsDecoded, IsNumberBy, IsRead, IsResolved, LinkedLoads, NameStands}
-use Rattle.link_laws.proofs.Common.{line_place}
-use Rattle.link_laws.proofs.{Lists.find_none, Lists.all_back, Lists.each_of, Beside.IsAside, Beside.IsBeside, Beside.KnowsLine}
-use Rattle.link_laws.proofs.{Beside.address_aside, Beside.all_beside, Beside.before_number, Beside.ends_here, Beside.line_byte}
-use Rattle.link_laws.proofs.{Beside.line_fixups, Beside.own_fixup, Fitted.insn_is_read, Numbers.IsFar, Numbers.holds_address}
-use Rattle.link_laws.proofs.{Numbers.holds_distance, Immediates.TakesNumber, Immediates.takes_number, Relocs.byte_of, Sources.ends_at}
-use Rattle.link_laws.proofs.{Sources.fixups_append, Sources.section_append}
+use Rattle.link_laws.proofs.Beside.{address_aside, all_beside, before_number, IsAside, IsBeside, KnowsLine, line_byte, own_fixup, own_there}
+use Rattle.link_laws.proofs.Common.{All, bytes_eq, bytes_of, cases_lt, fixup_of, get_name, insn_use, is_named, KnowsUse, LineFits, LinkPlan}
+use Rattle.link_laws.proofs.Common.{All-contains_itself, get_or-to_le_bytes, get_or_append_left, get_or_from_slice_get, little_endian-below}
+use Rattle.link_laws.proofs.Common.{AllByRecursion, distance_kind, immediate_size, IsBelow, length-take-le, linked_sections, with_immediate}
+use Rattle.link_laws.proofs.Common.{AllPairs, AreBytes, Contains, InsnFits, IsObject, replicate, same_Some, signed_at, slice_get, symbol_of}
+use Rattle.link_laws.proofs.Common.{ap, ◌*◌, ◌+◌, ◌-◌, ◌/◌, ◌<◌, ◌^◌, ◌∙◌, ◌∷◌, ◌≡◌, ◌≤◌}
+use Rattle.link_laws.proofs.Common.{AreFit, distance_of, ends_in_data, first_of_all, found_within, laid_objects, LinkedLoads, window-append}
+use Rattle.link_laws.proofs.Common.{arith, false, Fixup, Holds, Image, Insn, is_of, Laid, Line, List, moved, subst, width, window, ⊎_elim}
+use Rattle.link_laws.proofs.Common.{cases_Bool, data_after, ext_get_or, from_of, length-map, line_place, moved_byte, names_with, next_place}
+use Rattle.link_laws.proofs.Common.{cond, find, inl, inr, laid, map, None, read, refl, Some, suc, sym, take, true, w64, zero, [], ◌%◌, ◌++◌}
+use Rattle.link_laws.proofs.Common.{file_sections, get_or-window, if◌then◌else◌, length-append, length-window, little_endian, option_map_or}
+use Rattle.link_laws.proofs.Common.{get_or, IsRead, known_in, length, Linked, mapped, Object, Option, place_of, spelling, Symbol, use_of, ℤ}
+use Rattle.link_laws.proofs.Common.{get_or-append-add, IsNumberBy, length-replicate, recursion_from_All, slice_get-get_or, slice_get_within}
+use Rattle.link_laws.proofs.Common.{get_or-take, is_distance, IsResolved, laid_inside, name_number, NameStands, Ok, to_le_bytes, WellFormed}
+use Rattle.link_laws.proofs.Common.{IsDecoded, line_fits, nat_tests, number_at, object_in, pairs_tail, read_again, section_of, TakesName, ℕ}
+use Rattle.link_laws.proofs.{Fitted.insn_is_read, Lists.all_back, Lists.find_none, Numbers.holds_address, Numbers.IsFar, Relocs.byte_of}
+use Rattle.link_laws.proofs.{Immediates.takes_number, Immediates.TakesNumber, Lists.each_of, Numbers.holds_distance, Sources.section_append}
+use Rattle.pe_image.proofs.SizeLaws.{linked_size_law}
+use Rattle.pe_image.specs.Sizes.{size_of_linked}
 use Rattle.ebc_insn.specs.declared.Insn.TheVariants as insns
 use Rattle.asm_text.specs.Statements as statements
 
@@ -42,8 +38,7 @@ found_one x r (q ∷ rs) (zero, low, is) apart here =
     ap (λ b. cond b (Some q) (find (is_of x) rs)) (subst (λ p. is_of x p ≡ true) (sym is) here) ∙ ap Some is
 found_one x r (q ∷ rs) (suc k, low, is) apart here =
     let far = subst (λ p. q + 8 ≤ p) is (apart 0 (suc k) r (omega arith) low) in
-    let no_ : is_of x q ≡ false = grind (arith, nat_tests) in
-    ap (λ b. cond b (Some q) (find (is_of x) rs)) no_ ∙ found_one x r rs (k, omega (arith, low), is) (pairs_tail q rs apart) here
+    grind (arith, nat_tests, found_one x r rs (k, omega (arith, low), is) (pairs_tail q rs apart) here)
 
 -- a byte of a relocated number is that of the number at the base
 pub mapped_moved : (image : Image) (base x r : ℕ) → Contains image.relocs r → AllPairs IsBelow image.relocs → is_of x r ≡ true
@@ -55,14 +50,6 @@ mapped_moved image base x r there apart here =
 
 -- ---- a window of a loaded image
 
--- bytes that a window has are those of a list
-pub window_is : (b : ℕ → ℕ) (a : ℕ) (bytes : List ℕ) → ((k : ℕ) → k < length bytes → b (a + k) ≡ get_or bytes k 0)
-    → window b a (length bytes) ≡ bytes
-window_is b a bytes same =
-    let long = length-window b a (length bytes) in
-    ext_get_or 0 (window b a (length bytes)) bytes long
-    (λ k low. get_or-window b a (length bytes) k 0 (omega (arith, low, long)) ∙ same k (omega (arith, low, long)))
-
 -- what is decoded where an instruction is spelled
 pub decoded : (b : ℕ → ℕ) (p size : ℕ) (j : Insn) → WellFormed j → p + length (spelling j) ≤ size
     → ((k : ℕ) → k < length (spelling j) → b (p + k) ≡ get_or (spelling j) k 0)
@@ -70,8 +57,11 @@ pub decoded : (b : ℕ → ℕ) (p size : ℕ) (j : Insn) → WellFormed j → p
 decoded b p size j well within same =
     let n : ℕ = length (spelling j) in
     let count : size - p ≡ n + (size - p - n) = omega (arith, within) in
-    let parts = ap (window b p) count ∙ (window-append b p n (size - p - n)
-    ∙ ap (λ bs. bs ++ window b (p + n) (size - p - n)) (window_is b p (spelling j) same)) in
+    let long = length-window b p n in
+    let front : window b p n ≡ spelling j = ext_get_or 0 (window b p n) (spelling j) long
+    (λ k low. get_or-window b p n k 0 (omega (arith, low, long)) ∙ same k (omega (arith, low, long))) in
+    let parts = ap (window b p) count
+    ∙ (window-append b p n (size - p - n) ∙ ap (λ bs. bs ++ window b (p + n) (size - p - n)) front) in
     ap read parts ∙ read_again j (window b (p + n) (size - p - n)) well
 
 -- ---- an instruction with a number in place of a name
@@ -118,38 +108,16 @@ with_number i t b p n small front number k low =
 
 -- the bytes before its number, and those of the number
 front_long : (i : Insn) (t : TakesNumber i) → length t.front + immediate_size i ≡ length (spelling i)
-front_long i t =
-    let long : length {A = ℕ} (replicate (immediate_size i) 0) ≡ immediate_size i = length-replicate (immediate_size i) 0 in
-    sym (ap length t.zeros ∙ (length-append t.front (replicate (immediate_size i) 0) ∙ ap (λ m. length t.front + m) long))
+front_long i t = sym (simp (length-append, length-replicate) at (ap length t.zeros))
 
 -- the length stays
 with_length : (i : Insn) (t : TakesNumber i) (n : ℕ) → n < 2 ^ (8 * immediate_size i)
     → length (spelling (with_immediate i (signed_at (8 * immediate_size i) n))) ≡ length (spelling i)
 with_length i t n small =
-    let tail : List ℕ = take (immediate_size i) (to_le_bytes w64 n) in
-    let long : length tail ≡ immediate_size i = length-take-le (immediate_size i) (to_le_bytes w64 n) (size_fits i).small in
-    ap length (t.spells n small) ∙ (length-append t.front tail ∙ (ap (λ m. length t.front + m) long ∙ front_long i t))
+    let long = length-take-le (immediate_size i) (to_le_bytes w64 n) (size_fits i).small in
+    omega (arith, simp length-append at (ap length (t.spells n small)), long, front_long i t)
 
 -- ---- the fixup of a line
-
-own_there : (front back : List Line) (line : Line) (i : Insn) (name : List ℕ) → line.statement ≡ Some (statements.Instruction i (Some name))
-    → ends_in_data false front ≡ false
-    → Contains (object_in (front ++ line ∷ back)).fixups
-    (fixup_of false (length (section_of false false front)) (names_with [] (front ++ line ∷ back)) (insn_use i name))
-unfolding object_in
-own_there front back line i name is code =
-    let ls : List Line = front ++ line ∷ back in
-    let names : List (List ℕ) = names_with [] ls in
-    let off : ℕ = length (section_of false false front) in
-    let k : ℕ = (ends_of start front).data_end in
-    let f : Fixup = fixup_of false off names (insn_use i name) in
-    let one : List Fixup = fixups_in false start names front in
-    let three : List Fixup = fixups_in false (ends_at false (off + length (spelling i)) k) names back in
-    let parts = fixups_append false start names front (line ∷ back)
-    ∙ ap (λ fs. one ++ fs) (ap (λ e. fixups_in false e names (line ∷ back)) (ends_here front code)
-    ∙ line_fixups off k names line back i (Some name) is) in
-    Contains-append_left (fixups_in false start names ls) (fixups_in true start names ls) f
-    (subst (λ fs. Contains fs f) (sym parts) (Contains-append_right one (f ∷ three) f (0, omega arith, refl)))
 
 -- the symbol at the number of a name is that of the name
 symbol_at : (ls : List Line) (name : List ℕ) → is_named name (names_with [] ls) ≡ true
@@ -168,11 +136,10 @@ own_symbol : (front back : List Line) (line : Line) (i : Insn) (name : List ℕ)
 unfolding object_in
 own_symbol front back line i name s is found =
     let ls : List Line = front ++ line ∷ back in
-    let names : List (List ℕ) = names_with [] ls in
-    let k : ℕ = name_number name names in
-    let ss : List Symbol = map (symbol_of ls) names in
-    let used = (all_back (KnowsLine names) front (line ∷ back) (known_in [] ls)).0 in
-    let known : is_named name names ≡ true = subst (λ o. KnowsUse names (use_of o)) is used in
+    let ss : List Symbol = map (symbol_of ls) (names_with [] ls) in
+    let k : ℕ = name_number name (names_with [] ls) in
+    let used = (all_back (KnowsLine (names_with [] ls)) front (line ∷ back) (known_in [] ls)).0 in
+    let known : is_named name (names_with [] ls) ≡ true = subst (λ o. KnowsUse (names_with [] ls) (use_of o)) is used in
     let same : symbol_of ls name ≡ s = same_Some (symbol_of ls name) s (sym (symbol_at ls name known) ∙ found) in
     (ap (λ (t : Symbol). t.name) (sym same), (k, slice_get_within ss k s found, get_or_from_slice_get ss k s s found))
 
@@ -191,26 +158,10 @@ before_line front = section_of false false front
 abbrev behind_line : List Line → Line → List ℕ
 behind_line back line = section_of false (data_after false line.statement) back
 
-next_from : (place : ℕ) (ss : List Section) → IsLaid place ss → place ≤ next_place ss place
-unfolding next_place
-next_from place [] h = omega arith
-next_from place (s ∷ ss) h = omega (arith, next_from (rounded 0x1000 (s.place + s.size)) ss h.1)
-
-above_by : (image : Image) (text : List ℕ) (rest : List Section) → IsLaid 0x1000 (text_sections text ++ rest)
-    → 0x1000 + length text ≤ next_place (text_sections text ++ rest) 0x1000
-unfolding next_place
-above_by image [] rest h = let n = next_from 0x1000 rest h in omega (arith, n)
-above_by image (b ∷ bs) rest h = let n = next_from (rounded 0x1000 (0x1000 + length (b ∷ bs))) rest h.1 in omega (arith, n)
-
-image_above : (image : Image) (text contents : List ℕ) → IsLinked image → image.sections ≡ linked_sections text contents
+image_above : (image : Image) (text contents : List ℕ) → image.sections ≡ linked_sections text contents
     → 0x1000 + length text ≤ next_place (file_sections image) 0x1000
-unfolding file_sections linked_sections
-image_above image text contents linked is =
-    let data_ : List Section = section_if (codes ".data" ++ 0 ∷ 0 ∷ 0 ∷ []) 0xC0000040 (next_place (text_sections text) 0x1000) contents in
-    let relocs : List Section = reloc_sections image in
-    let parts = ap (λ ss. ss ++ relocs) is ∙ append_assoc (text_sections text) data_ relocs in
-    subst (λ ss. 0x1000 + length text ≤ next_place ss 0x1000) (sym parts)
-    (above_by image text (data_ ++ relocs) (subst (IsLaid 0x1000) parts (laid-file image linked)))
+unfolding size_of_linked
+image_above image text contents is = omega (arith, linked_size_law image text contents is)
 
 -- the number of a fixup that fills in a distance
 distance_bytes : (image : Image) (base r size k : ℕ) → AreBytes image → k < size
@@ -293,7 +244,7 @@ module _ (objects : List Object) (plan : LinkPlan) (image : Image) (l : Laid) (f
     line_beside : AllByRecursion (IsBeside off n (its_fixup name)) l.object.fixups
     line_beside =
         subst (λ (o : Object). AllByRecursion (IsBeside off n (its_fixup name)) o.fixups) (sym s.is)
-        (all_beside front back line i name s.fit s.statement s.code)
+        (all_beside front back line i name s.statement s.code s.fit)
 
     line_asides : AllByRecursion (IsAside l p n (its_fixup name)) image.relocs
     line_asides =
@@ -309,7 +260,7 @@ module _ (objects : List Object) (plan : LinkPlan) (image : Image) (l : Laid) (f
         let text : List ℕ = layout.sections.0 in
         let contents : List ℕ = layout.sections.1 in
         let ends = (s.linked.ends text contents layout.sections.2).0 in
-        omega (arith, line_within, to, ends, image_above image text contents layout layout.sections.2)
+        omega (arith, line_within, to, ends, image_above image text contents layout.sections.2)
 
     -- the bytes of the line that stand before its number, if it has one
     bytes_before : (base limit k : ℕ) → k < limit → limit ≤ n → ((f : Fixup) → its_fixup name ≡ Some f → off + limit ≤ f.offset)
@@ -339,7 +290,8 @@ module _ (objects : List Object) (plan : LinkPlan) (image : Image) (l : Laid) (f
   named_line : (name : List ℕ) → IsLine (Some name) → IsNamedLine name
   named_line name s =
       let f : Fixup = fixup_of false off names (insn_use i name) in
-      let its = subst (λ (x : Object). Contains x.fixups f) (sym s.is) (own_there front back line i name s.statement s.code) in
+      let its = subst (λ (x : Object). Contains x.fixups f) (sym s.is) (own_there front back line i (Some name) s.statement s.code f
+      (first_of_all [] f)) in
       let filled = s.linked.fixups l f s.there its in
       let found = subst (λ (x : Object). slice_get x.symbols f.symbol ≡ Some filled.0) s.is filled.2 in
       let symbol = own_symbol front back line i name filled.0 s.statement found in

@@ -1,11 +1,10 @@
 -- What fixups hold, by their kinds: two images hold the same numbers, where their symbols stand at the same places.
-use Rattle.link_laws.proofs.Common.{◌≡◌, ℕ, ◌+◌, ◌*◌, ◌≤◌, Bool, true, false, refl, arith, pos, nat_eq, ◌+ℤ◌, ◌*ℤ◌, if◌then◌else◌}
-use Rattle.link_laws.proofs.Common.{nat_tests, signed_at, width, Fixup, Image, Laid, place_in, place_of, Holds, number_at, address, bytes}
-use Rattle.link_laws.proofs.Common.{words, inl, inr, ⊎_elim, ◌⊎◌, ints, suc, ◌/◌, ◌%◌, ◌^◌, ◌<◌, ap, sym, subst, ◌∙◌, ℤ}
-use Rattle.link_laws.proofs.Common.{little_endian-below, signed_whole, int_raw, AreBytes, laid, negsuc, +ℤ_assoc, +ℤ_idl, +ℤ_invl, neg_ℤ}
-use Rattle.link_laws.proofs.Common.{negsuc-*ℤ-pos, pos-*ℤ-pos}
-use Rattle.ebc_link.specs.Linked.{address, bytes, words}
+use Rattle.link_laws.proofs.Common.{address, arith, bytes, false, Fixup, Holds, Image, inl, int_raw, nat_eq, place_of, subst, width, ⊎_elim}
+use Rattle.link_laws.proofs.Common.{ap, ℕ, ℤ, ◌≤◌, ◌⊎◌}
+use Rattle.link_laws.proofs.Common.{AreBytes, if◌then◌else◌, little_endian-below, nat_tests, number_at, place_in, signed_at, signed_whole}
+use Rattle.link_laws.proofs.Common.{Bool, inr, ints, Laid, laid, pos, sym, true, words, ◌%◌, ◌*ℤ◌, ◌*◌, ◌+ℤ◌, ◌+◌, ◌/◌, ◌<◌, ◌^◌, ◌∙◌, ◌≡◌}
 use Rattle.link_laws.proofs.Relocs.{byte_of}
+use Rattle.ebc_link.specs.Linked.{address, bytes, words}
 
 -- ---- what a fixup holds
 

@@ -1,56 +1,31 @@
 -- Linked images of the same objects are one. Where no name is defined twice, a symbol stands at one place.
-use Rattle.link_laws.proofs.Common.{zero, suc, arith, ◌≡◌, ℕ, List, [], ◌∷◌, ◌++◌, Option, Some, None, Bool, true, false, cond, refl, ap}
-use Rattle.link_laws.proofs.Common.{sym, subst, ◌∙◌, bytes_eq, Contains, ◌||◌, is_named, Symbol, head_or_later, nowhere, Laid, place_in}
-use Rattle.link_laws.proofs.Common.{StandsAt, Definition, definition_in, definitions, first_again, is_definition, names_of, or_right}
-use Rattle.link_laws.proofs.Common.{bytes_eq-Decides, joined, kept, IsEntry, own, other, definitions_of, nat_le, nat_lt, ◌&&◌}
-use Rattle.link_laws.proofs.Common.{All-from_recursion, Any, Any-from_list_any, ◌+◌, ◌-◌, ◌<◌, ◌≤◌, slice_index, length, ◌↔◌, AllPairs}
-use Rattle.link_laws.proofs.Common.{ext_get_or, All-contains, file_sections, next_place, reloc_section, reloc_sections, rounded, IsBelow}
-use Rattle.link_laws.proofs.Common.{linked_sections, laid, Image, Section, Object, first_of_all, further, LinkPlan, Linked, ◌⊎◌, inl, inr}
-use Rattle.link_laws.proofs.Common.{⊎_elim, or_cases, cases_Bool, list_any, cases_lt, nat_tests, width, Fixup, AreBytes, place_of}
-use Rattle.link_laws.proofs.Common.{laid_objects, Holds, fills, number_at, Contains-tail, pairs_head, IsFilled, IsOutside, own_bytes}
-use Rattle.link_laws.proofs.Common.{LinkedIsOne}
-use Rattle.std.specs.Prelude.{filter}
-use Rattle.ebc_link.proofs.ThereLaws.{mapped}
-use Rattle.link_laws.proofs.{Lists.none_front, Lists.fails_of, Listings.data_place, Relocs.Within, Relocs.laid_code, Relocs.laid_data}
-use Rattle.link_laws.proofs.{Numbers.same_byte, Numbers.same_number}
-use Rattle.ebc_link.specs.Layout.{start_of}
+use Rattle.std.proofs.lemmas.List.{get_or-map}
+use Rattle.std.specs.Prelude.{filter, ◌≢◌}
+use Rattle.link_laws.proofs.Common.{All-contains, definition_in, file_sections, first_of_all, head_or_later, is_definition, reloc_section}
+use Rattle.link_laws.proofs.Common.{All-from_recursion, Any-from_list_any, Contains-tail, definitions_of, linked_sections, reloc_sections}
+use Rattle.link_laws.proofs.Common.{AllPairs, AreBytes, Contains, Fixup, IsOutside, nat_tests, next_place, number_at, own_bytes, pairs_head}
+use Rattle.link_laws.proofs.Common.{Any, ap, inl, inr, own, sym, ℕ, ◌+◌, ◌-◌, ◌<◌, ◌||◌, ◌↔◌, ◌∙◌, ◌∷◌, ◌≡◌, ◌≤◌, ◌⊎◌}
+use Rattle.link_laws.proofs.Common.{arith, false, fills, Image, kept, Laid, laid, List, None, other, refl, Some, subst, true, width, ◌&&◌}
+use Rattle.link_laws.proofs.Common.{Bool, further, get_or, joined, length, Linked, nat_le, nat_lt, nowhere, Object, rounded, Symbol, ⊎_elim}
+use Rattle.link_laws.proofs.Common.{cases_Bool, Definition, definitions, ext_get_or, first_again, laid_objects, length-map, LinkedIsOne, []}
+use Rattle.link_laws.proofs.Common.{Holds, IsBelow, IsEntry, IsFilled, LinkPlan, list_any, names_of, or_cases, place_in, place_of, StandsAt}
+use Rattle.link_laws.proofs.Lists.{fails_of, one_or_apart}
+use Rattle.link_laws.proofs.{Listings.data_place, Numbers.same_byte, Numbers.same_number, Relocs.laid_code, Relocs.laid_data}
 use Rattle.ebc_disasm.proofs.Firsts.{pairs_tail}
+use Rattle.ebc_link.proofs.{PlanLaws.apart_from, ThereLaws.mapped}
+use Rattle.ebc_link.specs.Layout.{start_of}
 
 -- ---- definitions
 
-new_names : (ds : List Definition) (before : List (List ℕ)) (e : Definition) → first_again before (names_of ds) ≡ None → Contains ds e
-    → is_named e.name before ≡ false
-unfolding first_again
-new_names [] before e none there = nowhere _ e there
-new_names (d ∷ ds) before e none (zero, within, is) = grind arith
-new_names (d ∷ ds) before e none (suc k, within, is) =
-    none_front (bytes_eq e.name) before (d.name ∷ [])
-    (new_names ds (before ++ d.name ∷ []) e (grind arith) (k, omega (arith, within), is))
-
--- a name is not among names that end with it
-own_name : (n : List ℕ) (before : List (List ℕ)) → is_named n (before ++ n ∷ []) ≡ true
-own_name n [] = ap (λ b. b || false) ((bytes_eq-Decides n n).1 refl)
-own_name n (m ∷ ms) = or_right (bytes_eq n m) _ (own_name n ms)
-
-not_later : (d : Definition) (ds : List Definition) (before : List (List ℕ)) (e : Definition)
-    → first_again (before ++ d.name ∷ []) (names_of ds) ≡ None → Contains ds e → d.name ≡ e.name → (P : Type 0) → P
-not_later d ds before e none there same P =
-    let new : is_named e.name (before ++ d.name ∷ []) ≡ false = new_names ds (before ++ d.name ∷ []) e none there in
-    let old = subst (λ n. is_named n (before ++ d.name ∷ []) ≡ true) same (own_name d.name before) in
-    absurd cc
-
-pub one_definition : (ds : List Definition) (before : List (List ℕ)) (d e : Definition) → first_again before (names_of ds) ≡ None
-    → Contains ds d → Contains ds e → d.name ≡ e.name → d ≡ e
-unfolding first_again
-one_definition [] before d e none first second same = nowhere _ d first
-one_definition (x ∷ ds) before d e none first second same =
-    let behind : first_again (before ++ x.name ∷ []) (names_of ds) ≡ None = grind arith in
-    head_or_later (d ≡ e) x ds d first
-    (λ is. head_or_later (d ≡ e) x ds e second (λ also. sym is ∙ also)
-    (λ later. not_later x ds before e behind later (ap (λ (y : Definition). y.name) is ∙ same) (d ≡ e)))
-    (λ there. head_or_later (d ≡ e) x ds e second
-    (λ also. not_later x ds before d behind there (ap (λ (y : Definition). y.name) also ∙ sym same) (d ≡ e))
-    (λ later. one_definition ds (before ++ x.name ∷ []) d e behind there later same))
+one_definition : (ds : List Definition) (d e : Definition) → first_again [] (names_of ds) ≡ None → Contains ds d → Contains ds e
+    → d.name ≡ e.name → d ≡ e
+one_definition ds d e none first second same =
+    let name : Definition → List ℕ = λ d. d.name in
+    let pairs : AllPairs (λ (a b : Definition). a.name ≢ b.name) ds = λ i j a less within is.
+    (apart_from [] (names_of ds) none).1 i j a.name less (omega (arith, within, length-map ds name))
+    (get_or-map name ds i a a.name (omega (arith, less, within)) ∙ (is ∙ sym (get_or-map name ds j a a.name within))) in
+    ⊎_elim (λ is. is) (λ other. absurd (⊎_elim (λ a. a same) (λ a. a (sym same)) other))
+    (one_or_apart (λ (a b : Definition). a.name ≢ b.name) ds d e pairs first second)
 
 -- what a symbol defines is among the definitions
 is_defined : (ls : List Laid) (l : Laid) (s : Symbol) → Contains ls l → Contains l.object.symbols s → is_definition s ≡ true
@@ -66,7 +41,7 @@ pub one_place : (ls : List Laid) (l m : Laid) (s t : Symbol) → first_again [] 
     → s.name ≡ t.name → place_in l.home s.kind s.offset ≡ place_in m.home t.kind t.offset
 one_place ls l m s t none first has_s defines_s second has_t defines_t same =
     ap (λ (d : Definition). d.place)
-    (one_definition (definitions ls) [] (definition_in l.home s) (definition_in m.home t) none
+    (one_definition (definitions ls) (definition_in l.home s) (definition_in m.home t) none
     (is_defined ls l s first has_s defines_s) (is_defined ls m t second has_t defines_t) same)
 
 -- a symbol stands at one place
@@ -123,12 +98,9 @@ one_ascending (x ∷ xs) (y ∷ ys) up up2 same =
 
 -- the bytes that stand at a place, which two images have alike
 one_part : (f g : ℕ → ℕ) (place : ℕ) (xs ys : List ℕ) → length xs ≡ length ys → ((x : ℕ) → f x ≡ g x)
-    → ((y : ℕ) → Within place (length xs) y → f y ≡ slice_index xs (y - place))
-    → ((y : ℕ) → Within place (length ys) y → g y ≡ slice_index ys (y - place)) → xs ≡ ys
-one_part f g place xs ys long same first second = ext_get_or 0 xs ys long (λ i low.
-    let at : place + i - place ≡ i = omega arith in
-    sym (first (place + i) (omega arith, omega (arith, low)) ∙ ap (slice_index xs) at)
-    ∙ (same (place + i) ∙ (second (place + i) (omega arith, omega (arith, low, long)) ∙ ap (slice_index ys) at)))
+    → ((i : ℕ) → i < length xs → f (place + i) ≡ get_or xs i 0) → ((i : ℕ) → i < length ys → g (place + i) ≡ get_or ys i 0) → xs ≡ ys
+one_part f g place xs ys long same first second =
+    ext_get_or 0 xs ys long (λ i low. sym (first i low) ∙ (same (place + i) ∙ second i (omega (arith, low, long))))
 
 -- the code and the data of two images with the same bytes, which are as long, are one
 one_text : (text contents text2 contents2 : List ℕ) → length text ≡ length text2
@@ -140,8 +112,8 @@ one_text text contents text2 contents2 long same =
 one_contents : (text contents text2 contents2 : List ℕ) → length text ≡ length text2 → length contents ≡ length contents2
     → ((x : ℕ) → laid (linked_sections text contents) x ≡ laid (linked_sections text2 contents2) x) → contents ≡ contents2
 one_contents text contents text2 contents2 front long same =
-    let P : ℕ → Type 0 = λ n. (y : ℕ) → Within (rounded 0x1000 (0x1000 + n)) (length contents2) y
-    → laid (linked_sections text2 contents2) y ≡ slice_index contents2 (y - rounded 0x1000 (0x1000 + n)) in
+    let P : ℕ → Type 0 = λ n. (i : ℕ) → i < length contents2
+    → laid (linked_sections text2 contents2) (rounded 0x1000 (0x1000 + n) + i) ≡ get_or contents2 i 0 in
     one_part (laid (linked_sections text contents)) (laid (linked_sections text2 contents2)) (data_place text) contents contents2 long same
     (laid_data text contents) (subst P (sym front) (laid_data text2 contents2))
 
@@ -160,7 +132,7 @@ one_sections objects plan one two first second same =
     λ x. ap (λ us. laid us x) (sym is) ∙ (same x ∙ ap (λ us. laid us x) is2) in
     rw (is, is2, one_text text contents text2 contents2 front bytes, one_contents text contents text2 contents2 front behind bytes) refl
 
-one_size : (one two : Image) → one.sections ≡ two.sections → one.relocs ≡ two.relocs
+pub one_size : (one two : Image) → one.sections ≡ two.sections → one.relocs ≡ two.relocs
     → next_place (file_sections one) 0x1000 ≡ next_place (file_sections two) 0x1000
 unfolding file_sections reloc_sections reloc_section
 one_size one two sections relocs = rw (sections, relocs) refl

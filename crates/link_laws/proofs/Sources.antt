@@ -1,14 +1,14 @@
 -- The sections, the places of labels, the fixups and the names of the lines of a listing, as those of a source.
-use Rattle.link_laws.proofs.Common.{◌≡◌, ℕ, ◌^◌, ◌<◌, Some, sym, ap, ◌∙◌, arith, drop, label_text, hex_text, ◌+◌, ◌-◌, List, [], ◌∷◌, ◌++◌}
-use Rattle.link_laws.proofs.Common.{length, map, Bool, true, false, cond, not, ◌&&◌, refl, append_assoc, length-append, bytes_eq, nat_eq}
-use Rattle.link_laws.proofs.Common.{if◌then◌else◌, AllByRecursion, list_any, or_from, or_parts, nat_tests, map-append, Insn, spelling}
-use Rattle.link_laws.proofs.Common.{name_number, same_name, Fixup, Listed, Line, listed_line, bytes_of, data_after, ends_in_data}
-use Rattle.link_laws.proofs.Common.{immediate_size, is_distance, section_of, use_of, Ends, Place, fixups_in, fixups_of, here, is_labelled}
-use Rattle.link_laws.proofs.Common.{section_kind, ends_of, same_bytes, takes_label, digits_from, hex_read, if_there, ends_after}
-use Rattle.link_laws.proofs.Common.{false_from_ne_true}
+use Rattle.link_laws.proofs.Bodies.{is_head, IsLine, takes_address}
+use Rattle.link_laws.proofs.Common.{AllByRecursion, append_assoc, ends_of, false_from_ne_true, if◌then◌else◌, immediate_size, length-append}
+use Rattle.link_laws.proofs.Common.{ap, cond, drop, here, map, not, refl, sym, true, [], ℕ, ◌&&◌, ◌++◌, ◌+◌, ◌-◌, ◌<◌, ◌^◌, ◌∙◌, ◌∷◌, ◌≡◌}
+use Rattle.link_laws.proofs.Common.{arith, Bool, Ends, false, Fixup, Image, Insn, length, Line, List, nat_eq, Place, Some, spelling, use_of}
+use Rattle.link_laws.proofs.Common.{bytes_eq, bytes_of, fixups_of, hex_read, hex_text, if_there, list_any, nat_tests, or_parts, same_name}
+use Rattle.link_laws.proofs.Common.{data_after, ends_after, fixups_in, label_text, Listed, map-append, same_bytes, section_of, takes_label}
+use Rattle.link_laws.proofs.Common.{digits_from, ends_in_data, is_distance, is_labelled, listed_line, ListedFits, name_number, section_kind}
+use Rattle.link_laws.proofs.FixupWalk.{target_use, use_at, uses_from}
+use Rattle.link_laws.proofs.{ItemLaws.line_bytes, Lists.each_of, PlaceLaws.is_label_of, SectionLaws.bytes_of_lines}
 use Rattle.ebc_asm.specs.Symbols.{place_of}
-use Rattle.link_laws.proofs.{ItemLaws.line_bytes, SectionLaws.bytes_of_lines, PlaceLaws.is_label_of, FixupWalk.target_use, FixupWalk.use_at}
-use Rattle.link_laws.proofs.{FixupWalk.uses_from, Bodies.takes_address, Bodies.is_head}
 use Rattle.ebc_insn.specs.declared.Insn.TheVariants as insns
 use Rattle.ebc_insn.specs.declared.Size.TheVariants as sizes
 use Rattle.asm_text.specs.declared.listing.Listed.TheVariants as listed
@@ -36,9 +36,7 @@ after_line d c h = refl
 pub ends_same : (d : Bool) (ls : List Listed) → list_any is_head ls ≡ false → ends_in_data d (source ls) ≡ d
 unfolding ends_in_data
 ends_same d [] h = refl
-ends_same d (l ∷ ls) h =
-    let p = or_parts (is_head l) (list_any is_head ls) h in
-    ap (λ c. ends_in_data c (source ls)) (after_line d l p.0) ∙ ends_same d ls p.1
+ends_same d (l ∷ ls) h = grind (arith, after_line d l, ends_same d ls)
 
 pub ends_append : (d : Bool) (xs ys : List Line) → ends_in_data d (xs ++ ys) ≡ ends_in_data (ends_in_data d xs) ys
 unfolding ends_in_data
@@ -48,12 +46,10 @@ ends_append d (x ∷ xs) ys = ends_append (data_after d x.statement) xs ys
 -- ---- the bytes of a section
 
 there : {A : Type 0} (d : Bool) (xs : List A) → if_there d d xs ≡ xs
-there true xs = refl
-there false xs = refl
+there d xs = grind arith
 
 not_there : {A : Type 0} (d : Bool) (xs : List A) → if_there (not d) d xs ≡ []
-not_there true xs = refl
-not_there false xs = refl
+not_there d xs = grind arith
 
 pub section_append : (w d : Bool) (xs ys : List Line) → section_of w d (xs ++ ys) ≡ section_of w d xs ++ section_of w (ends_in_data d xs) ys
 unfolding section_of ends_in_data
@@ -65,16 +61,21 @@ section_append w d (x ∷ xs) ys =
 pub section_here : (d : Bool) (ls : List Listed) → list_any is_head ls ≡ false → section_of d d (source ls) ≡ bytes_of_lines ls
 unfolding section_of
 section_here d [] h = refl
-section_here d (l ∷ ls) h =
-    let p = or_parts (is_head l) (list_any is_head ls) h in
-    rw (there d (line_bytes l), after_line d l p.0, section_here d ls p.1) refl
+section_here d (l ∷ ls) h = grind (arith, there d (line_bytes l), after_line d l, section_here d ls)
 
 pub section_other : (d : Bool) (ls : List Listed) → list_any is_head ls ≡ false → section_of (not d) d (source ls) ≡ []
 unfolding section_of
 section_other d [] h = refl
-section_other d (l ∷ ls) h =
-    let p = or_parts (is_head l) (list_any is_head ls) h in
-    rw (not_there d (line_bytes l), after_line d l p.0) (section_other d ls p.1)
+section_other d (l ∷ ls) h = grind (arith, not_there d (line_bytes l), after_line d l, section_other d ls)
+
+-- headings have no bytes
+pub data_heading : (w c : Bool) (ls : List Listed) → section_of w c (source (listed.Data ∷ ls)) ≡ section_of w true (source ls)
+unfolding section_of
+data_heading w c ls = grind arith
+
+pub none_of : (w c : Bool) → section_of w c [] ≡ []
+unfolding section_of
+none_of w c = refl
 
 -- ---- where sections end
 
@@ -94,9 +95,7 @@ pub place_past : (e : Ends) (name : List ℕ) (xs ys : List Line) → list_any (
     → place_of e name (xs ++ ys) ≡ place_of (ends_of e xs) name ys
 unfolding place_of ends_of
 place_past e name [] ys h = refl
-place_past e name (x ∷ xs) ys h =
-    let p = or_parts (is_labelled name x) (list_any (is_labelled name) xs) h in
-    rw (p.0) (place_past (ends_after e x) name xs ys p.1)
+place_past e name (x ∷ xs) ys h = grind (arith, place_past (ends_after e x) name xs ys)
 
 pub place_label : (e : Ends) (y : ℕ) (ls : List Line)
     → place_of e (label_text y) (listed_line (listed.Label y) ∷ ls) ≡ next_place e
@@ -107,6 +106,13 @@ place_label e y ls = rw (same_bytes (label_text y)) refl
 abbrev pub IsLowLabel : Listed → Type 0
 IsLowLabel (listed.Label place) = place < 2 ^ 32
 IsLowLabel l = Unit {0}
+
+low_line : (l : Listed) → ListedFits l → IsLowLabel l
+low_line (listed.Label y) h = h
+low_line l h = tt
+
+pub low_lines : (image : Image) (code : Bool) (ls : List Listed) → AllByRecursion (IsLine image code) ls → AllByRecursion IsLowLabel ls
+low_lines image code ls h = each_of (IsLine image code) IsLowLabel ls (λ l g. low_line l g.fits) h
 
 not_labelled : (y : ℕ) (l : Listed) → y < 2 ^ 32 → IsLowLabel l → is_label_of y l ≡ false
     → is_labelled (label_text y) (listed_line l) ≡ false
@@ -121,8 +127,7 @@ pub none_labelled : (y : ℕ) (ls : List Listed) → y < 2 ^ 32 → AllByRecursi
     → list_any (is_labelled (label_text y)) (source ls) ≡ false
 none_labelled y [] small low none = refl
 none_labelled y (l ∷ ls) small low none =
-    let p = or_parts (is_label_of y l) (list_any (is_label_of y) ls) none in
-    or_from _ _ (not_labelled y l small low.0 p.0) (none_labelled y ls small low.1 p.1)
+    grind (arith, not_labelled y l small low.0, none_labelled y ls small low.1)
 
 -- ---- fixups
 
@@ -168,8 +173,7 @@ abbrev pub ends_at : Bool → ℕ → ℕ → Ends
 ends_at d c k = record { in_data = d; code_end = c; data_end = k }
 
 here_more : (d : Bool) (c k n : ℕ) → here (ends_at d (if d then c else c + n) (if d then k + n else k)) ≡ here (ends_at d c k) + n
-here_more true c k n = refl
-here_more false c k n = refl
+here_more d c k n = grind arith
 
 -- the fixups of lines of one section
 pub fixups_here : (d : Bool) (c k s : ℕ) (names : List (List ℕ)) (ls : List Listed) → list_any is_head ls ≡ false
@@ -198,10 +202,13 @@ pub fixups_other : (d : Bool) (c k : ℕ) (names : List (List ℕ)) (ls : List L
 unfolding fixups_in
 fixups_other d c k names [] h = refl
 fixups_other d c k names (l ∷ ls) h =
-    let p = or_parts (is_head l) (list_any is_head ls) h in
     let n : ℕ = length (line_bytes l) in
-    rw (not_there d (fixups_of d (here (ends_at d c k)) names (use_of (listed_line l).statement)), after_line d l p.0)
-    (fixups_other d (if d then c else c + n) (if d then k + n else k) names ls p.1)
+    grind (
+      arith,
+      not_there d (fixups_of d (here (ends_at d c k)) names (use_of (listed_line l).statement)),
+      after_line d l,
+      fixups_other d (if d then c else c + n) (if d then k + n else k) names ls,
+    )
 
 -- ---- where sections end behind lines of the code
 
@@ -210,9 +217,5 @@ pub ends_code : (c k : ℕ) (ls : List Listed) → list_any is_head ls ≡ false
 unfolding ends_of
 ends_code c k [] h = let same : c ≡ c + 0 = omega arith in ap (λ n. ends_at false n k) same
 ends_code c k (l ∷ ls) h =
-    let p = or_parts (is_head l) (list_any is_head ls) h in
     let n : ℕ = length (line_bytes l) in
-    let count : c + n + length (bytes_of_lines ls) ≡ c + length (bytes_of_lines (l ∷ ls)) =
-    omega (arith, length-append (line_bytes l) (bytes_of_lines ls)) in
-    ap (λ b. ends_of (ends_at b (c + n) k) (source ls)) (after_line false l p.0)
-    ∙ (ends_code (c + n) k ls p.1 ∙ ap (λ m. ends_at false m k) count)
+    grind (arith, after_line false l, ends_code (c + n) k ls, length-append (line_bytes l) (bytes_of_lines ls))

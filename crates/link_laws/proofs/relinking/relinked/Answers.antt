@@ -1,6 +1,5 @@
-use Rattle.link_laws.proofs.Common.{◌∙◌}
+use Rattle.link_laws.proofs.{Again.all_one, Again.is_listed, Again.IsListed, Again.IsPlanOf, Again.same_file, Common.◌∙◌}
 use Rattle.pe_image.proofs.RoundTrip.{IsImage-linked}
-use Rattle.link_laws.proofs.Again.{IsListed, IsPlanOf, all_one, is_listed, same_file}
 use Rattle.link_laws.proofs.relinking.relinked.Goals as goal
 
 pub list-requires : goal.list-requires
