@@ -1,5 +1,4 @@
 pub mod Common
-mod DocumentKept
 mod NamesGiven
 mod NamesNumbered
 mod NoneAgain
@@ -10,4 +9,3 @@ mod PointsStand
 mod Rows
 mod TextsRead
 mod TomlTexts
-mod TypesAccepted

@@ -1,15 +1,13 @@
 -- The shapes of a draft of notes that was read, and their fields, have names that texts can have, each a name of its own.
-use Rattle.point_laws.proofs.Common.{◌≡◌, ℕ, ◌<◌, List, [], ◌∷◌, ◌++◌, length, map, take, get_or, Bool, true, false, Option, Some, None}
-use Rattle.point_laws.proofs.Common.{refl, sym, ap, ◌∙◌, ⊎_elim, arith, codes, slice_get, IfOk, bytes_eq, is_some, list_any, position}
-use Rattle.point_laws.proofs.Common.{cases_lt, get_or-take, length-take-le, list_any_at, get_or_from_slice_get, slice_get_within}
-use Rattle.point_laws.proofs.Common.{bytes_eq-Decides, Members, is_name, name_of, ok_then, ok_next, ok_weaken, Each, IsName, number_at}
-use Rattle.point_laws.proofs.Common.{only_keys, text_at, text_of, count, each, list_at, row_of, rows_of, tables_at, texts_at, texts_of}
-use Rattle.point_laws.proofs.Common.{row_prefix, FieldText, NotesDraft, ShapeDraft, DraftLists, NameTables, call_lists, code_lists}
-use Rattle.point_laws.proofs.Common.{data_lists, draft_lists, draft_of, greatest_32, shape_of, static_of, thunk_of, refused, names_of_calls}
-use Rattle.point_laws.proofs.Common.{names_of_code, names_of_data, once, first_repeat, has_repeat, repeats, repeats-at, nothing_refused}
-use Rattle.point_laws.proofs.Common.{IfSome, Data, ok_some, field_of, pair_at, table_of, field_read, DataLists, repeated_in_shapes}
-use Rattle.point_laws.proofs.Common.{repeated_place_in, repeats_field, same_name, shape_names, each_fails, each_read, none_sooner}
-use Rattle.point_laws.proofs.Common.{nothing-at, some_if, fails-from_none}
+use Rattle.point_laws.proofs.Common.{ap, Bool, Data, Each, each, IfOk, List, None, once, refl, Some, take, true, ◌++◌, ◌∙◌, ◌∷◌, ◌≡◌}
+use Rattle.point_laws.proofs.Common.{arith, codes, count, false, get_or, IsName, Items, length, Option, Result, row_of, text_at, text_of, ℕ}
+use Rattle.point_laws.proofs.Common.{bytes_eq, draft_of, field_of, is_name, list_any, position, shape_of, sym, table_of, texts_at, texts_of}
+use Rattle.point_laws.proofs.Common.{bytes_eq-Decides, fails-from_none, get_or_from_slice_get, IfSome, repeated_in_shapes, slice_get_within}
+use Rattle.point_laws.proofs.Common.{data_lists, DataLists, each_fails, field_read, has_repeat, Members, nothing-at, repeats-at, row_prefix}
+use Rattle.point_laws.proofs.Common.{draft_lists, first_repeat, get_or-take, length-take-le, names_of_data, nothing_refused, repeats_field}
+use Rattle.point_laws.proofs.Common.{DraftLists, greatest_32, list_any_at, NameTables, none_sooner, NotesDraft, shape_names, ShapeDraft, []}
+use Rattle.point_laws.proofs.Common.{each_read, FieldText, map, number_at, ok_weaken, only_keys, same_name, slice_get, tables_at, TomlFault}
+use Rattle.point_laws.proofs.Common.{is_some, list_at, name_of, ok_next, ok_some, ok_then, pair_at, refused, repeats, rows_of, some_if, ◌<◌}
 use Rattle.point_laws.proofs.NamesNumbered.{Once}
 use Rattle.note_draft.specs.declared.finding.Key.TheVariants as key
 use Rattle.note_draft.specs.declared.finding.Refusal.TheVariants as refusals
@@ -41,13 +39,16 @@ field_is s = some_reads IsNamedField (field_of s) (λ x e. ((field_read s (field
 field_named : (path : List ℕ) (d : Data) → IfOk (text_of field_of path d) IsNamedField
 field_named path d = search (ok_next, ok_some, field_is)
 
+each_named : {A : Type 0} (P : A → Type 0) (reads : ℕ → Data → Result A TomlFault) (ds : Items) → ((j : ℕ) (d : Data) → IfOk (reads j d) P)
+    → IfOk (each reads 0 ds) (Each P)
+each_named P reads ds h =
+    ok_weaken (λ xs. (length xs ≡ count ds) × Each P xs) (Each P) (each reads 0 ds) (each_read P reads ds 0 h) (λ xs g. g.1)
+
 fields_named : (prefix key : List ℕ) (limit : ℕ) (table : Members) → IfOk (texts_at field_of prefix key limit table) (Each IsNamedField)
 unfolding texts_at texts_of
 fields_named prefix key limit table =
     ok_next (Each IsNamedField) (list_at prefix key limit table) (texts_of field_of (prefix ++ key))
-    (λ ds. ok_weaken (λ xs. (length xs ≡ count ds) × Each IsNamedField xs) (Each IsNamedField)
-    (each (λ i d. text_of field_of (prefix ++ key) d) 0 ds)
-    (each_read IsNamedField (λ i d. text_of field_of (prefix ++ key) d) ds 0 (λ j d. field_named (prefix ++ key) d)) (λ xs h. h.1))
+    (λ ds. each_named IsNamedField (λ i d. text_of field_of (prefix ++ key) d) ds (λ j d. field_named (prefix ++ key) d))
 
 shape_named : (prefix : List ℕ) (table : Members) → IfOk (shape_of prefix table) IsNamedShape
 unfolding shape_of
@@ -66,12 +67,9 @@ shapes_named table =
     let P : DataLists → Type 0 = λ things. Each IsNamedShape things.shape in
     ok_then (Each IsNamedShape) P (tables_at shape_of [] (codes "shape") 1024 table) _
     (ok_next (Each IsNamedShape) (list_at [] (codes "shape") 1024 table) (rows_of shape_of path)
-    (λ ds. ok_weaken (λ xs. (length xs ≡ count ds) × Each IsNamedShape xs) (Each IsNamedShape) (each (row_of shape_of path) 0 ds)
-    (each_read IsNamedShape (row_of shape_of path) ds 0 (λ j d. ok_next IsNamedShape (table_of path j d)
-    (shape_of (row_prefix path j)) (shape_named (row_prefix path j))))
-    (λ xs h. h.1)))
-    (λ shapes are. ok_next P (tables_at static_of [] (codes "static") greatest_32 table) _
-    (λ statics. ok_next P (tables_at thunk_of [] (codes "thunk") greatest_32 table) _ (λ thunks. are)))
+    (λ ds. each_named IsNamedShape (row_of shape_of path) ds (λ j d. ok_next IsNamedShape (table_of path j d)
+    (shape_of (row_prefix path j)) (shape_named (row_prefix path j)))))
+    (λ shapes are. search ok_next)
 
 lists_named : (version : ℕ) (table : Members)
     → IfOk (draft_lists version table) (λ (lists : DraftLists). Each IsNamedShape lists.things.shape)
@@ -79,7 +77,7 @@ unfolding draft_lists
 lists_named version table =
     let P : DraftLists → Type 0 = λ lists. Each IsNamedShape lists.things.shape in
     ok_then (λ (things : DataLists). Each IsNamedShape things.shape) P (data_lists table) _ (shapes_named table)
-    (λ things are. ok_next P (code_lists version table) _ (λ code. ok_next P (call_lists table) _ (λ calls. are)))
+    (λ things are. search ok_next)
 
 -- the shapes of a draft that was read, and their fields, have names
 pub draft_named : (table : Members) → IfOk (draft_of table) (λ (d : NotesDraft). Each IsNamedShape d.shape)
@@ -110,13 +108,13 @@ not_again same xs none j k x y first second below e =
 -- so things that are the same where their names are have names of their own
 pub once_by : {A : Type 0} (name : A → List ℕ) (same : A → A → Bool) (xs : List A) → ((x y : A) → name x ≡ name y → same x y ≡ true)
     → first_repeat same xs ≡ None → Once name xs
-once_by name same xs alike none j k x y first second e = ⊎_elim
-    (λ below. absurd (not_again same xs none j k x y first second below (alike y x (sym e))))
-    (λ above. ⊎_elim
-    (λ below. absurd (not_again same xs none k j y x second first below (alike x y e)))
-    (λ past. omega arith)
-    (cases_lt k j))
-    (cases_lt j k)
+once_by name same xs alike none j k x y first second e = grind (
+  arith,
+  not_again same xs none j k x y first second,
+  not_again same xs none k j y x second first,
+  alike y x (sym e),
+  alike x y e,
+)
 
 none_in_data : (d : NotesDraft) → IfOk (names_of_data d) (λ names. repeated_in_shapes d.shape ≡ None)
 unfolding names_of_data
@@ -125,15 +123,14 @@ none_in_data d =
     ok_then F F (shape_names d.shape) _
     (ok_then (λ _. repeated_in_shapes d.shape ≡ None) F (refused refusals.Twice (repeated_in_shapes d.shape)) _
     (nothing_refused refusals.Twice (repeated_in_shapes d.shape)) (λ _ none. none))
-    (λ names none. ok_next F (refused refusals.Twice (repeated_place_in list.Static (map (λ o. o.place) d.statics))) _
-    (λ _. ok_next F (refused refusals.Twice (repeated_place_in list.Thunk (map (λ o. o.place) d.thunk))) _ (λ _. none)))
+    (λ names none. search ok_next)
 
 none_once : (d : NotesDraft) → IfOk (once d) (λ t. repeated_in_shapes d.shape ≡ None)
 unfolding once
 none_once d =
     let P : NameTables → Type 0 = λ t. repeated_in_shapes d.shape ≡ None in
     ok_then (λ _. repeated_in_shapes d.shape ≡ None) P (names_of_data d) _ (none_in_data d)
-    (λ shapes none. ok_next P (names_of_code d) _ (λ functions. ok_next P (names_of_calls d) _ (λ calls. none)))
+    (λ shapes none. search ok_next)
 
 -- shapes have names of their own, and so have the fields of each
 pub record HasNamesOnce (d : NotesDraft) : Type 0 where
@@ -141,8 +138,7 @@ pub record HasNamesOnce (d : NotesDraft) : Type 0 where
   pub fields : Each (λ (s : ShapeDraft). Once (λ (x : FieldText). x.name) s.fields) d.shape
 
 none_of : {A : Type 0} (o : Option A) → is_some o ≡ false → o ≡ None
-none_of None e = refl
-none_of (Some x) e = absurd cc
+none_of o e = grind arith
 
 fields_once : (s : ShapeDraft) → repeats_field s ≡ false → Once (λ (x : FieldText). x.name) s.fields
 unfolding has_repeat

@@ -1,12 +1,11 @@
 -- Names that stand once: each is the name of the thing with its number, and fields are their sets again.
-use Rattle.point_laws.proofs.Common.{◌≡◌, ℕ, zero, suc, ◌+◌, ◌^◌, ◌%◌, ◌<◌, ◌≤◌, Bool, true, false, List, [], ◌∷◌, length, filter, map}
-use Rattle.point_laws.proofs.Common.{cond, get_or, Option, Some, refl, sym, ap, subst, ◌∙◌, inl, inr, ⊎_elim, arith, slice_get, position}
-use Rattle.point_laws.proofs.Common.{position_or_len, range_with_len, option_map_or, bytes_eq, option_map, cases_Bool, cases_lt, eq-eqb}
-use Rattle.point_laws.proofs.Common.{lt-ltb, get_or_from_slice_get, slice_get-map, slice_get_within, bytes_eq-Decides, name_number}
-use Rattle.point_laws.proofs.Common.{within_some, Field, FieldText, NameTables, has_field, field_number, field_set, resolved_field}
-use Rattle.point_laws.proofs.Common.{field_name, field_names, names_below, has, AllByRecursion, ◌/◌, position_or_len_is, bit_at-lt}
-use Rattle.point_laws.proofs.Common.{same_from_bits_below, same_Some, slice_get-get_or, bit_at, HasField, SomeNames, field_set-fields}
-use Rattle.point_laws.proofs.Common.{field_set-below}
+use Rattle.point_laws.proofs.Common.{AllByRecursion, field_set-below, position_or_len, range_with_len, slice_get-get_or, slice_get_within}
+use Rattle.point_laws.proofs.Common.{ap, inr, map, suc, sym, [], ◌%◌, ◌+◌, ◌/◌, ◌<◌, ◌^◌, ◌∙◌, ◌∷◌, ◌≡◌, ◌≤◌}
+use Rattle.point_laws.proofs.Common.{arith, Bool, false, filter, get_or, inl, length, List, lt-ltb, refl, Some, subst, true, zero, ⊎_elim}
+use Rattle.point_laws.proofs.Common.{bit_at, bytes_eq, cases_lt, eq-eqb, Field, has_field, HasField, Option, position, same_Some, slice_get}
+use Rattle.point_laws.proofs.Common.{bit_at-lt, cond_both, field_name, field_set, FieldText, NameTables, option_map, SomeNames, within_some}
+use Rattle.point_laws.proofs.Common.{bytes_eq-Decides, field_set-fields, get_or_from_slice_get, position_or_len_is, same_from_bits_below, ℕ}
+use Rattle.point_laws.proofs.Common.{field_names, field_number, has, name_number, names_below, option_map_or, resolved_field, slice_get-map}
 use Rattle.point_laws.proofs.NoneAgain.{all_kept, all_of}
 
 -- things of one name are one
@@ -17,13 +16,10 @@ Once {A} name xs = (j k : ℕ) (x y : A) → slice_get xs j ≡ Some x → slice
 module _ {A : Type 0} (name : A → List ℕ) (xs : List A) (once : Once name xs) (p : A → Bool) (k : ℕ) (x : A)
     (there : slice_get xs k ≡ Some x) (only : (y : A) → p y ≡ true → name y ≡ name x) (passes : p x ≡ true) where
   not_before : (j : ℕ) → j < k → p (get_or xs j x) ≡ false
-  not_before j below = ⊎_elim
-      (λ same.
+  not_before j below =
       let within = slice_get_within xs k x there in
-      let e : j ≡ k = once j k (get_or xs j x) x (slice_get-get_or xs j x (omega arith)) there (only (get_or xs j x) same) in
-      absurd (omega arith))
-      (λ other. other)
-      (cases_Bool (p (get_or xs j x)))
+      let y = get_or xs j x in
+      grind (arith, once j k y x (slice_get-get_or xs j x (omega arith)) there, only y)
 
   pub first_of_name : position_or_len p xs ≡ k
   first_of_name =
@@ -35,9 +31,7 @@ module _ {A : Type 0} (name : A → List ℕ) (xs : List A) (once : Once name xs
 
 -- two bits are one where they are set together
 same_bit : (a b : ℕ) → a < 2 → b < 2 → (a ≡ 1 → b ≡ 1) → (b ≡ 1 → a ≡ 1) → a ≡ b
-same_bit a b small low there back = ⊎_elim
-    (λ out. ⊎_elim (λ none. omega arith) (λ one. let e : a ≡ 1 = back (omega arith) in absurd (omega arith)) (cases_lt b 1))
-    (λ set. let e : b ≡ 1 = there (omega arith) in omega arith) (cases_lt a 1)
+same_bit a b small low there back = grind arith
 
 pub same : (a : List ℕ) → bytes_eq a a ≡ true
 same a = (bytes_eq-Decides a a).1 refl
@@ -82,25 +76,18 @@ module _ (t : NameTables) (fs : List FieldText) (once : Once (λ (g : FieldText)
         subst (HasField set) (same_Some n i (sym (field_found n (known n (has set n all.0))) ∙ here)) (has set n all.0))
         (λ later. named_has i ns all.1 later) h
 
-    kept_more : (i n : ℕ) (b : Bool) (ns : List ℕ) → SomeNames fs i (map (field_name fields) ns)
-        → SomeNames fs i (map (field_name fields) (cond b (n ∷ ns) ns))
-    kept_more i n true ns h = inr h
-    kept_more i n false ns h = h
-
-    kept_here : (i : ℕ) (b : Bool) (ns : List ℕ) → b ≡ true → i < length fs → SomeNames fs i (map (field_name fields) (cond b (i ∷ ns) ns))
-    kept_here i true ns e within = inl (field_found i within)
-    kept_here i false ns e within = absurd cc
-
     has_named : (i : ℕ) → has_field set i ≡ true → i < length fs → (a n : ℕ) → a ≤ i → i < a + n
         → SomeNames fs i (map (field_name fields) (filter (has_field set) (range_with_len a n)))
     has_named i e within a zero low high = absurd (omega arith)
     has_named i e within a (suc n) low high = ⊎_elim
-        (λ below. kept_more i a (has_field set a) (filter (has_field set) (range_with_len (a + 1) n))
-        (has_named i e within (a + 1) n (omega arith) (omega arith)))
+        (λ below. cond_both (has_field set a) (a ∷ filter (has_field set) (range_with_len (a + 1) n))
+        (filter (has_field set) (range_with_len (a + 1) n)) (λ ns. SomeNames fs i (map (field_name fields) ns))
+        (λ has. inr (has_named i e within (a + 1) n (omega arith) (omega arith)))
+        (λ none. has_named i e within (a + 1) n (omega arith) (omega arith)))
         (λ above.
         let it : i ≡ a = omega arith in
-        subst (λ k. SomeNames fs i (map (field_name fields) (filter (has_field set) (k ∷ range_with_len (a + 1) n)))) it
-        (kept_here i (has_field set i) (filter (has_field set) (range_with_len (a + 1) n)) e within))
+        let here : has_field set a ≡ true = ap (has_field set) (sym it) ∙ e in
+        rw here (inl (ap (λ k. position (λ (g : FieldText). bytes_eq g.name (field_name fields k)) fs) (sym it) ∙ field_found i within)))
         (cases_lt a i)
 
     below_has : (i n : ℕ) → SomeNames fs i (names_below fields set n) → HasField set i

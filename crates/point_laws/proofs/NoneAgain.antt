@@ -1,11 +1,10 @@
 -- Lists: what holds of each item; and those in which a search finds nothing: no item fails a test, stands there again or descends.
-use Rattle.point_laws.proofs.Common.{and_parts, ◌≡◌, ℕ, zero, suc, ◌+◌, ◌-◌, ◌<◌, ◌≤◌, Bool, true, false, not, List, [], ◌∷◌, length, take}
-use Rattle.point_laws.proofs.Common.{get_or, map, Some, None, refl, sym, ap, ◌∙◌, ⊎_elim, arith, slice_get, list_all, position}
-use Rattle.point_laws.proofs.Common.{position_or_len, range_with_len, IsStrictlyIncreasing, cases_Bool, nat_tests, get_or-take, length-map}
-use Rattle.point_laws.proofs.Common.{length-take-le, get_or_from_slice_get, within_some, first_descent, first_repeat, repeats, repeats-at}
-use Rattle.point_laws.proofs.Common.{All, AllPairs, AllByRecursion, filter, cond_both, Each, each_first, each_rest, le-ltb, get_or-map}
-use Rattle.point_laws.proofs.Common.{list_any_none, get_or-range_with_len, length-range_with_len, AllPairs-from_increasing}
-use Rattle.point_laws.proofs.Common.{first_descent-none, first_repeat-none}
+use Rattle.point_laws.proofs.Common.{All, ap, map, not, suc, sym, take, true, zero, [], ℕ, ◌+◌, ◌-◌, ◌<◌, ◌∙◌, ◌∷◌, ◌≡◌, ◌≤◌}
+use Rattle.point_laws.proofs.Common.{AllByRecursion, AllPairs, first_descent-none, first_repeat-none, IsStrictlyIncreasing, position_or_len}
+use Rattle.point_laws.proofs.Common.{AllPairs-from_increasing, get_or-range_with_len, get_or_from_slice_get, length-range_with_len, repeats}
+use Rattle.point_laws.proofs.Common.{and_parts, cond_both, each_first, each_rest, get_or-map, length-map, nat_tests, repeats-at, slice_get}
+use Rattle.point_laws.proofs.Common.{arith, Bool, Each, false, filter, get_or, le-ltb, length, List, list_all, None, position, refl, Some}
+use Rattle.point_laws.proofs.Common.{first_descent, first_repeat, get_or-take, length-take-le, list_any_none, range_with_len, within_some}
 
 -- ---- each item
 
@@ -90,8 +89,7 @@ none_again {A} key same xs alike up = first_repeat-none same xs new
         let first : get_or (map key xs) i (key x) ≡ key y = get_or-map key xs i e (key x) (omega arith) in
         let second : get_or (map key xs) k (key x) ≡ key x = get_or-map key xs k x (key x) within
         ∙ ap key (get_or_from_slice_get xs k x x at) in
-        ap (same x) (get_or-take k xs i e (omega arith))
-        ∙ ⊎_elim (λ equal. let n : key x ≡ key y = alike x y equal in absurd (omega arith)) (λ differ. differ) (cases_Bool (same x y))
+        ap (same x) (get_or-take k xs i e (omega arith)) ∙ grind (arith, alike x y)
 
     new : (k : ℕ) → k < length xs → repeats same xs k ≡ false
     new k within =

@@ -1,15 +1,15 @@
 -- The text of points is the document of their tables.
-use Rattle.point_laws.proofs.Common.{◌≡◌, ℕ, Bool, true, List, [], ◌∷◌, ◌++◌, map, refl, arith, codes, and_parts, ltb-true, nat_tests}
-use Rattle.point_laws.proofs.Common.{IsAscii-nil, decimal, flat_map, list_all, IsAscii, array_line, in_quotes, listed, suc, ◌^◌, ◌<◌, pos}
-use Rattle.point_laws.proofs.Common.{false, length, Some, sym, ap, ◌∙◌, append_assoc, skip_from-nil, key_text, integer, array, table, Items}
-use Rattle.point_laws.proofs.Common.{no_items, Members, no_members, member, Document, Expression, define, key_value, lines, parse_document}
-use Rattle.point_laws.proofs.Common.{IsLineText, lines_end, AllPrinted, run, members_of, strings, tables_of, AllByRecursion, subst, nat_lt}
-use Rattle.point_laws.proofs.Common.{list_all-append, IsAscii-cons, Nodes, no_nodes, node, value, open_array, close, array_table, push_item}
-use Rattle.point_laws.proofs.Common.{item_join, item_join-none, item_join-push, document_some}
-use Rattle.toml.specs.{Tables.along_dots, Tables.along_header, Tables.at_key, Parse.skip_bom}
-use Rattle.point_laws.proofs.{NoneAgain.all_so, TomlTexts.are_plain, TomlTexts.decimal_plain, TomlTexts.is_plain, TomlTexts.AllPlain}
-use Rattle.point_laws.proofs.{TomlTexts.AreLines, TomlTexts.array_line_spelled, TomlTexts.lines_read, TomlTexts.line_then}
-use Rattle.point_laws.proofs.{TomlTexts.no_line, TomlTexts.number_line_spelled, TomlTexts.strings_flat, TomlTexts.strings_valid}
+use Rattle.point_laws.proofs.Common.{AllByRecursion, define, document_some, item_join-none, item_join-push, list_all-append, parse_document}
+use Rattle.point_laws.proofs.Common.{AllPrinted, and_parts, append_assoc, array_table, Expression, IsAscii-cons, IsAscii-nil, skip_from-nil}
+use Rattle.point_laws.proofs.Common.{ap, suc, sym, ℕ, ◌<◌, ◌^◌, ◌∙◌, ◌∷◌, ◌≡◌}
+use Rattle.point_laws.proofs.Common.{arith, Bool, decimal, integer, IsAscii, Items, length, listed, member, Members, nat_lt, Nodes, strings}
+use Rattle.point_laws.proofs.Common.{array, close, codes, false, List, map, node, pos, refl, run, Some, subst, table, true, value, [], ◌++◌}
+use Rattle.point_laws.proofs.Common.{array_line, in_quotes, IsLineText, item_join, key_value, lines_end, members_of, no_members, open_array}
+use Rattle.point_laws.proofs.Common.{Document, flat_map, key_text, list_all, ltb-true, nat_tests, no_items, no_nodes, push_item, tables_of}
+use Rattle.point_laws.proofs.NoneAgain.{all_so}
+use Rattle.point_laws.proofs.TomlTexts.{AllPlain, are_plain, AreLines, is_plain, line_then, no_line}
+use Rattle.point_laws.proofs.TomlTexts.{array_line_spelled, decimal_plain, lines_read, number_line_spelled, strings_flat, strings_valid}
+use Rattle.toml.specs.{Parse.skip_bom, Tables.along_dots, Tables.along_header, Tables.at_key}
 
 -- ---- one point
 

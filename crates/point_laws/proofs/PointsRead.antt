@@ -1,29 +1,27 @@
 -- Under notes that a text stands for, what is printed of points is a document of TOML, and is read as the points.
-use Rattle.point_laws.proofs.Common.{◌≡◌, ℕ, zero, suc, ◌+◌, ◌-◌, ◌^◌, ◌<◌, ◌≤◌, Bool, true, false, List, [], ◌∷◌, ◌++◌, length, filter}
-use Rattle.point_laws.proofs.Common.{map, cond, Option, Some, None, refl, sym, ap, subst, ◌∙◌, ⊎_elim, arith, codes, slice_get, nat_le}
-use Rattle.point_laws.proofs.Common.{flat_map, position_or_len, range_with_len, option_map_or, IfOk, Ok, bytes_eq, count_by, is_none}
-use Rattle.point_laws.proofs.Common.{option_and_then, option_map, cases_Bool, le-leb, lt-ltb, length-map, slice_get-map, slice_get_within}
-use Rattle.point_laws.proofs.Common.{IsAscii-append, IsAscii-nil, IsAscii, array, member, no_members, table, item, name_number, ok_next}
-use Rattle.point_laws.proofs.Common.{ok_then, IsKnown, is_locals, local_fields, point_limit, Each, IsPointNote, SlotKind, Item, FnNote}
-use Rattle.point_laws.proofs.Common.{Notes, Point, Field, Shape, State, Ty, IsName, document, array_at, count, count_beside, each, list_at}
-use Rattle.point_laws.proofs.Common.{rows_of, tables_at, item_of, register_of, AreNames, FieldText, draft_of, point_of, known, once}
-use Rattle.point_laws.proofs.Common.{FunctionDraft, NotesDraft, ShapeDraft, NameTables, known_names, notes_in, notes_of, owner_of}
-use Rattle.point_laws.proofs.Common.{locals_fields, point_locals, resolved, resolved_field, resolved_function, resolved_locals}
-use Rattle.point_laws.proofs.Common.{resolved_point, ok_given, HaveNames, fields_at, item_text, item_texts, register_text, register_texts}
-use Rattle.point_laws.proofs.Common.{told_up_to, field_name, field_names, names_below, has_field, draft_in, item_draft, point_draft}
-use Rattle.point_laws.proofs.Common.{points_members, register_draft, strings, tables_of, AllByRecursion, ◌||◌, find_at, flat_map-map}
-use Rattle.point_laws.proofs.Common.{sum_by-cons, none-some, IsUtf8-from_ascii, is_utf8-from_IsUtf8, some_of_map, position_or_len-map}
-use Rattle.point_laws.proofs.Common.{each_none, slots_and_locals, fields_of, is_slot, IsNotes, function_at, Fact, has_text, has_place}
-use Rattle.point_laws.proofs.Common.{locals_in, shape_fields, resolved_shape, state_of, each_map, known_names-are, notes_of-notes}
-use Rattle.point_laws.proofs.Common.{point_text, below_are, IsReading, PrintedPointsAreRead, PrintedPointsAreTables, members_in}
-use Rattle.point_laws.proofs.Common.{point_members, HasNames, read_names}
-use Rattle.point_laws.proofs.{NoneAgain.all_each, NoneAgain.all_map, NoneAgain.each_of, PointsDocument.AllToldPlain}
-use Rattle.point_laws.proofs.{PointsDocument.IsToldPlain, PointsDocument.Told, PointsDocument.told_document, PointsDocument.told_members}
-use Rattle.point_laws.proofs.{PointsDocument.told_parsed, PointsDocument.told_text, PointsDocument.told_ascii, TextsRead.count_strings}
-use Rattle.point_laws.proofs.{TextsRead.names_again, TextsRead.point_read, TextsRead.tables_read, TextsRead.texts_again, TextsRead.AllKnown}
-use Rattle.point_laws.proofs.{TextsRead.KnownItem, TextsRead.names_are_plain, NamesGiven.HasNamesOnce, NamesGiven.IsNamedShape}
-use Rattle.point_laws.proofs.{NamesGiven.draft_named, NamesGiven.names_once, NamesNumbered.Once, TomlTexts.AllPlain}
-use Rattle.point_laws.proofs.{PointsResolved.AreNamesOf}
+use Rattle.point_laws.proofs.Common.{AllByRecursion, is_utf8-from_IsUtf8, position_or_len-map, PrintedPointsAreRead, PrintedPointsAreTables}
+use Rattle.point_laws.proofs.Common.{ap, each, item, once, refl, true, zero, ◌++◌, ◌+◌, ◌||◌, ◌∙◌, ◌∷◌, ◌≡◌, ◌≤◌}
+use Rattle.point_laws.proofs.Common.{AreNames, array_at, bytes_eq, count_by, document, draft_in, draft_of, HasNames, SlotKind, tables_of, ℕ}
+use Rattle.point_laws.proofs.Common.{arith, array, codes, cond, count, Each, Fact, false, IfOk, Item, known, List, None, Some, subst, table}
+use Rattle.point_laws.proofs.Common.{below_are, each_none, fields_at, fields_of, FieldText, has_field, HaveNames, IsReading, Ok, told_up_to}
+use Rattle.point_laws.proofs.Common.{Bool, field_name, item_draft, item_texts, NameTables, NotesDraft, ShapeDraft, some_of_map, sum_by-cons}
+use Rattle.point_laws.proofs.Common.{count_beside, FunctionDraft, locals_fields, option_map_or, point_members, register_text, slice_get-map}
+use Rattle.point_laws.proofs.Common.{each_map, flat_map, has_text, notes_in, notes_of, ok_given, owner_of, point_of, resolved, state_of, Ty}
+use Rattle.point_laws.proofs.Common.{Field, filter, le-leb, length, lt-ltb, member, nat_le, Notes, Option, Point, Shape, State, strings, []}
+use Rattle.point_laws.proofs.Common.{field_names, flat_map-map, function_at, IsAscii, IsPointNote, local_fields, point_locals, shape_fields}
+use Rattle.point_laws.proofs.Common.{find_at, is_none, is_slot, IsKnown, IsNotes, item_of, list_at, name_of, ok_next, ok_then, rows_of, sym}
+use Rattle.point_laws.proofs.Common.{FnNote, range_with_len, register_draft, register_texts, resolved_field, resolved_point, resolved_shape}
+use Rattle.point_laws.proofs.Common.{greatest_32, greatest_64, known_names, name_number, names_below, point_draft, point_limit, register_of}
+use Rattle.point_laws.proofs.Common.{has_place, is_locals, item_text, locals_in, nat_tests, none-some, only_keys, slice_get, suc, tables_at}
+use Rattle.point_laws.proofs.Common.{IsAscii-append, map, notes_of-notes, option_and_then, points_members, position_or_len, resolved_locals}
+use Rattle.point_laws.proofs.Common.{IsAscii-nil, IsUtf8-from_ascii, known_names-are, resolved_function, slice_get_within, slots_and_locals}
+use Rattle.point_laws.proofs.Common.{IsName, last_place, length-map, members_in, no_members, option_map, point_made, point_text, read_names}
+use Rattle.point_laws.proofs.NamesGiven.{draft_named, HasNamesOnce, IsNamedShape, names_once}
+use Rattle.point_laws.proofs.PointsDocument.{AllToldPlain, IsToldPlain, told_ascii, told_document, told_members, told_parsed, told_text}
+use Rattle.point_laws.proofs.PointsDocument.{Told}
+use Rattle.point_laws.proofs.TextsRead.{AllKnown, KnownItem, texts_found}
+use Rattle.point_laws.proofs.TextsRead.{beside_found, count_strings, names_again, names_are_plain, number_found, tables_read, texts_again}
+use Rattle.point_laws.proofs.{NamesNumbered.Once, NoneAgain.all_each, NoneAgain.all_map, NoneAgain.each_of, PointsResolved.AreNamesOf}
 use Rattle.note_types.specs.Records as records
 use Rattle.note_types.specs.declared.cell.SlotKind.TheVariants as kinds
 use Rattle.note_types.specs.declared.items.Item.TheVariants as items
@@ -202,24 +200,14 @@ few_beside : (notes : Notes) (fields : List Field) (xs : List Item) → count_by
     → nat_le (count_beside (codes "locals") (strings (item_texts notes fields xs))) 64 ≡ true
 few_beside notes fields xs few once =
     let ts = item_texts notes fields xs in
-    let parts = slots_and_locals xs in
     let long : count (strings ts) ≡ length xs = count_strings ts ∙ length-map xs (item_text notes fields) in
-    ⊎_elim
-    (λ some. rw some (le-leb (count (strings ts) - 1) 64 (omega arith)))
-    (λ none.
-    let without = no_locals notes fields xs none in
-    rw none (le-leb (count (strings ts)) 64 (omega arith)))
-    (cases_Bool (has_text (codes "locals") (strings ts)))
+    grind (arith, nat_tests, slots_and_locals xs, no_locals notes fields xs, long)
 
 -- ---- one point
 
-short_if : {X : Type 0} (b : Bool) (x : X) (ys : List X) (n : ℕ) → length ys ≤ n → length (cond b (x ∷ ys) ys) ≤ suc n
-short_if true x ys n h = omega arith
-short_if false x ys n h = omega arith
-
 kept_short : (p : ℕ → Bool) (a n : ℕ) → length (filter p (range_with_len a n)) ≤ n
 kept_short p a zero = omega arith
-kept_short p a (suc n) = short_if (p a) a (filter p (range_with_len (a + 1) n)) n (kept_short p (a + 1) n)
+kept_short p a (suc n) = grind (arith, kept_short p (a + 1) n)
 
 told_short : (s : State) (n : ℕ) → length (told_up_to s n) ≤ n
 unfolding told_up_to
@@ -238,15 +226,23 @@ same_state : (s : State) (regs : List Ty) (stack : List Item) (written : ℕ) (f
     → record { regs = regs; items = stack; written = written; made = s.made; fact = fact } ≡ s
 same_state s regs stack written fact a b c e = rw (a, b, c, e) refl
 
+abbrev told_in : Notes → List Field → Point → Told
+told_in notes fl p = record {
+  place = p.place;
+  made = p.state.made;
+  regs = register_texts notes fl p.state;
+  stack = item_texts notes fl p.state.items;
+  written = field_names fl p.state.written;
+}
+
+abbrev told_of : Notes → Point → Told
+told_of notes p = told_in notes (fields_at notes p.place) p
+
 -- what is printed of a point where the locals have these fields, and what it is read as
 pub record PrintedWith (t : NameTables) (d : NotesDraft) (p : Point) (fl : List Field) : Type 0 where
   pub table : (prefix : List ℕ) → point_of prefix (members_in (resolved t d) fl p) ≡ Ok (draft_in (resolved t d) fl p)
   pub point : resolved_point t d (draft_in (resolved t d) fl p) ≡ p
-  pub regs : AllPlain (register_texts (resolved t d) fl p.state)
-  pub stack : AllPlain (item_texts (resolved t d) fl p.state.items)
-  pub written : AllPlain (field_names fl p.state.written)
-  pub place : p.place < 2 ^ 63
-  pub made : p.state.made < 2 ^ 63
+  pub plain : IsToldPlain (told_in (resolved t d) fl p)
 
 abbrev pub IsPrinted : NameTables → NotesDraft → Point → Type 0
 IsPrinted t d p = PrintedWith t d p (fields_at (resolved t d) p.place)
@@ -267,19 +263,25 @@ module _ (d : NotesDraft) (t : NameTables) (p : Point) (n : IsPointNote (resolve
   written_named = below_are (resolved t d) n.owner p.state.written 64 h n.written
 
   table_again : (prefix : List ℕ) → point_of prefix (members_in (resolved t d) fields p) ≡ Ok (draft_in (resolved t d) fields p)
+  unfolding point_of point_made only_keys
   table_again prefix =
       let told = told_short p.state 7 in
       let long = length-map (told_up_to p.state 7) (register_text (resolved t d) fields p.state) in
       let short = names_short fields p.state.written 64 in
-      point_read prefix p.place p.state.made (register_texts (resolved t d) fields p.state) (item_texts (resolved t d) fields p.state.items)
-      (field_names fields p.state.written) (map (register_draft (resolved t d) fields p.state) (told_up_to p.state 7))
-      (map (item_draft (resolved t d) fields) p.state.items) (field_names fields p.state.written)
-      (omega arith) (omega arith) (omega arith) (few_beside (resolved t d) fields p.state.items n.state.few n.state.once) (omega arith)
-      (texts_again register_of (register_text (resolved t d) fields p.state) (register_draft (resolved t d) fields p.state)
-      (prefix ++ codes "regs") (told_up_to p.state 7) (reading.registers_read (resolved t d) n.owner h p.state n.state))
-      (texts_again item_of (item_text (resolved t d) fields) (item_draft (resolved t d) fields) (prefix ++ codes "stack") p.state.items
-      (reading.items_read (resolved t d) n.owner h p.state.items items_known))
-      (names_again (prefix ++ codes "written") (field_names fields p.state.written) written_named)
+      let ms = members_in (resolved t d) fields p in
+      let regs = texts_again register_of (register_text (resolved t d) fields p.state) (register_draft (resolved t d) fields p.state)
+      (prefix ++ codes "regs") (told_up_to p.state 7) (reading.registers_read (resolved t d) n.owner h p.state n.state) in
+      let stack = texts_again item_of (item_text (resolved t d) fields) (item_draft (resolved t d) fields) (prefix ++ codes "stack")
+      p.state.items (reading.items_read (resolved t d) n.owner h p.state.items items_known) in
+      rw (
+        number_found prefix (codes "place") 0 last_place p.place ms refl (omega arith) (omega arith),
+        texts_found register_of prefix (codes "regs") greatest_64 ms _ _ refl (omega arith) regs,
+        beside_found item_of prefix (codes "stack") (codes "locals") 64 ms _ _ refl
+            (few_beside (resolved t d) fields p.state.items n.state.few n.state.once) stack,
+        texts_found name_of prefix (codes "written") greatest_64 ms _ _ refl (omega arith)
+            (names_again (prefix ++ codes "written") (field_names fields p.state.written) written_named),
+        number_found prefix (codes "made") 0 greatest_32 p.state.made ms refl (omega arith) (omega arith),
+      ) refl
 
   state_again : state_of t fs (draft_in (resolved t d) fields p) ≡ p.state
   unfolding state_of
@@ -297,11 +299,13 @@ module _ (d : NotesDraft) (t : NameTables) (p : Point) (n : IsPointNote (resolve
   printed same = subst (PrintedWith t d p) (sym (here (resolved t d) p n)) (record {
     table = table_again;
     point = point_again same;
-    regs = reading.registers_plain (resolved t d) n.owner h p.state n.state;
-    stack = reading.items_plain (resolved t d) n.owner h p.state.items items_known;
-    written = names_are_plain (field_names fields p.state.written) written_named;
-    place = omega (arith, n.place);
-    made = omega (arith, n.made);
+    plain = record {
+      place = omega (arith, n.place);
+      made = omega (arith, n.made);
+      regs = reading.registers_plain (resolved t d) n.owner h p.state n.state;
+      stack = reading.items_plain (resolved t d) n.owner h p.state.items items_known;
+      written = names_are_plain (field_names fields p.state.written) written_named;
+    };
   })
 
 pub is_printed : (d : NotesDraft) (t : NameTables) → IsRead d t → (p : Point) → IsPointNote (resolved t d) p → IsPrinted t d p
@@ -323,21 +327,10 @@ pub all_printed : (d : NotesDraft) (t : NameTables) → IsRead d t → (ps : Lis
 all_printed d t r ps h =
     each_of (IsPointNote (resolved t d)) (IsPrinted t d) ps (is_printed d t r) (all_each (IsPointNote (resolved t d)) ps h)
 
-abbrev told_of : Notes → Point → Told
-told_of notes p =
-    record {
-      place = p.place;
-      made = p.state.made;
-      regs = register_texts notes (fields_at notes p.place) p.state;
-      stack = item_texts notes (fields_at notes p.place) p.state.items;
-      written = field_names (fields_at notes p.place) p.state.written;
-    }
-
 all_plain : (d : NotesDraft) (t : NameTables) (ps : List Point) → AllPrinted t d ps → AllToldPlain (map (told_of (resolved t d)) ps)
 all_plain d t ps h =
     all_map IsToldPlain (told_of (resolved t d)) ps
-    (each_of (IsPrinted t d) (λ p. IsToldPlain (told_of (resolved t d) p)) ps
-    (λ p h. record { place = h.place; made = h.made; regs = h.regs; stack = h.stack; written = h.written }) h)
+    (each_of (IsPrinted t d) (λ p. IsToldPlain (told_of (resolved t d) p)) ps (λ p h. h.plain) h)
 
 tables_told : (notes : Notes) (ps : List Point) → tables_of told_members (map (told_of notes) ps) ≡ tables_of (point_members notes) ps
 tables_told notes [] = refl

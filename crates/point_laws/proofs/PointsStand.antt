@@ -1,21 +1,23 @@
 -- The draft of notes with what is printed of points in place of its own points stands for the notes with these points.
-use Rattle.point_laws.proofs.Common.{◌≡◌, ℕ, ◌≤◌, Bool, true, false, not, List, [], ◌∷◌, length, map, Option, Some, None, Result, Ok, refl}
-use Rattle.point_laws.proofs.Common.{sym, ap, subst, ◌∙◌, nat_eq, position, IsStrictlyIncreasing, IfOk, is_none, is_some, eqb-true}
-use Rattle.point_laws.proofs.Common.{length-map, is_named, ok_then, ok_weaken, local_fields, Each, IsPointNote, TomlFault, FnNote, Point}
-use Rattle.point_laws.proofs.Common.{at, refused, known, knows_regs, knows_stack, names_of_calls, names_of_code, names_of_data, once}
-use Rattle.point_laws.proofs.Common.{repeats_register, first_descent, first_repeat, FunctionDraft, NotesDraft, PointDraft, NameTables}
-use Rattle.point_laws.proofs.Common.{holds_locals, regs_are_local, regs_have_thunks, stack_has_thunks, stack_is_local, written_is_local}
-use Rattle.point_laws.proofs.Common.{known_names, notes_in, owner_of, PointLocals, locals_fields, point_locals, resolved, resolved_function}
-use Rattle.point_laws.proofs.Common.{resolved_point, nothing_refused, ok_given, draft_in, point_draft, with_printed, AllByRecursion, ◌++◌}
-use Rattle.point_laws.proofs.Common.{Err, ◌>>=◌, passes, unknown, unknown_in_functions, unknown_in_points, unknown_in_shapes}
-use Rattle.point_laws.proofs.Common.{unknown_in_signatures, unknown_in_sites, unknown_in_statics, unknown_in_thunks, sooner, ◌otherwise◌}
-use Rattle.point_laws.proofs.Common.{function_names, repeated_in_points, Finding, SiteDraft, disordered, first_point, stray}
-use Rattle.point_laws.proofs.Common.{thunkless_points, unmet, first_stray, resolved_thunk, neither, ok_passes, PrintedPointsAreAccepted}
-use Rattle.point_laws.proofs.Common.{map-id}
-use Rattle.point_laws.proofs.PointsRead.{AllPrinted, IsRead, all_known, all_points, all_printed, are_names, here, is_read, its_fields}
-use Rattle.point_laws.proofs.PointsRead.{locals_once, owned}
-use Rattle.point_laws.proofs.NoneAgain.{NoneBy, all_each, each_of, none_again, none_descends, none_fails, none_passes}
-use Rattle.point_laws.proofs.TypesAccepted.{IsAccepted, accepted, has_as_many}
+use Rattle.point_laws.proofs.Common.{AllByRecursion, Err, function_names, names_of_calls, nothing_refused, points_members, written_is_local}
+use Rattle.point_laws.proofs.Common.{ap, at, not, refl, sym, true, ◌∙◌, ◌∷◌, ◌≡◌, ◌≤◌}
+use Rattle.point_laws.proofs.Common.{array_at, first_descent, locals_fields, regs_are_local, resolved_point, resolved_thunk, stack_is_local}
+use Rattle.point_laws.proofs.Common.{Bool, bytes_eq, CodeLists, number_at, ok_passes, ok_weaken, only_keys, static_of, tables_at, TomlFault}
+use Rattle.point_laws.proofs.Common.{call_lists, DraftLists, map, NameTables, NotesDraft, point_draft, point_limit, PointDraft, ◌otherwise◌}
+use Rattle.point_laws.proofs.Common.{CallLists, code_lists, data_lists, disordered, draft_keys, Finding, get_member, knows_regs, length-map}
+use Rattle.point_laws.proofs.Common.{codes, Each, false, IfOk, known, List, None, once, Point, Some, sooner, stray, subst, unmet, [], ◌>>=◌}
+use Rattle.point_laws.proofs.Common.{document, draft_in, draft_of, eqb-true, is_named, notes_in, notes_of, Ok, ok_given, owner_of, point_of}
+use Rattle.point_laws.proofs.Common.{draft_lists, first_point, first_stray, function_of, greatest_32, known_names, knows_stack, PointLocals}
+use Rattle.point_laws.proofs.Common.{first_repeat, IsStrictlyIncreasing, PrintedPointsAreAccepted, PrintedPointsStand, unknown_in_functions}
+use Rattle.point_laws.proofs.Common.{FnNote, length, map-id, nat_eq, ok_then, Option, passes, refused, Result, site_of, text_at, unknown}
+use Rattle.point_laws.proofs.Common.{holds_locals, local_fields, names_of_code, names_of_data, point_locals, signatures_at, with_printed, ℕ}
+use Rattle.point_laws.proofs.Common.{is_none, is_some, list_at, Members, name_of, neither, ok_next, position, resolved, shape_of, thunk_of}
+use Rattle.point_laws.proofs.Common.{IsPointNote, regs_have_thunks, repeats_register, stack_has_thunks, thunkless_points, unknown_in_thunks}
+use Rattle.point_laws.proofs.Common.{Notes, repeated_in_points, resolved_function, unknown_in_points, unknown_in_shapes, unknown_in_statics}
+use Rattle.point_laws.proofs.NoneAgain.{all_each, each_of, none_again, none_descends, none_fails, none_passes, NoneBy}
+use Rattle.point_laws.proofs.PointsRead.{all_known, all_points, all_printed, AllPrinted, are_names, its_fields, locals_once, tables_again}
+use Rattle.point_laws.proofs.PointsRead.{here, is_read, IsRead, owned}
+use Rattle.point_laws.proofs.PointsResolved.{accepted, has_as_many, IsAccepted}
 use Rattle.note_draft.specs.declared.finding.Key.TheVariants as key
 use Rattle.note_draft.specs.declared.finding.Refusal.TheVariants as refusals
 use Rattle.note_draft.specs.declared.finding.TableList.TheVariants as list
@@ -54,35 +56,12 @@ pub ok_with : {A B E : Type 0} (Q : B → Type 0) (a : Result A E) (f : A → Re
 ok_with Q (Ok x) f h = h x refl
 ok_with Q (Err e) f h = tt
 
--- the first of some findings
-abbrev first_of : List (Option Finding) → Option Finding
-first_of [] = None
-first_of (a ∷ []) = a
-first_of (a ∷ b ∷ cs) = a otherwise first_of (b ∷ cs)
+-- where there is none of two findings, there is none of two others
+still : (a b x y : Option Finding) → (a ≡ None → b ≡ None) → (x ≡ None → y ≡ None) → (a otherwise x) ≡ None → (b otherwise y) ≡ None
+still a b x y first second e = let p = neither a x e in rw (first p.0) (second p.1)
 
--- where there is none of some, there is none of others
-abbrev Kept : List (Option Finding) → List (Option Finding) → Type 0
-Kept [] [] = Unit {0}
-Kept (a ∷ cs) (b ∷ ds) = (a ≡ None → b ≡ None) × Kept cs ds
-Kept cs ds = ⊥
-
-still_none : (cs ds : List (Option Finding)) → Kept cs ds → first_of cs ≡ None → first_of ds ≡ None
-still_none [] [] kept e = refl
-still_none (a ∷ []) (b ∷ []) kept e = kept.0 e
-still_none (a ∷ c ∷ cs) (b ∷ d ∷ ds) kept e =
-    let p = neither a (first_of (c ∷ cs)) e in rw (kept.0 p.0) (still_none (c ∷ cs) (d ∷ ds) kept.1 p.1)
-still_none [] (b ∷ ds) kept e = absurd kept
-still_none (a ∷ cs) [] kept e = absurd kept
-still_none (a ∷ []) (b ∷ d ∷ ds) kept e = absurd kept.1
-still_none (a ∷ c ∷ cs) (b ∷ []) kept e = absurd kept.1
-
-same_kept : (cs : List (Option Finding)) → Kept cs cs
-same_kept [] = tt
-same_kept (a ∷ cs) = (λ e. e, same_kept cs)
-
-kept_behind : (front cs ds : List (Option Finding)) → Kept cs ds → Kept (front ++ cs) (front ++ ds)
-kept_behind [] cs ds kept = kept
-kept_behind (a ∷ front) cs ds kept = (λ e. e, kept_behind front cs ds kept)
+past : (a x y : Option Finding) → (x ≡ None → y ≡ None) → (a otherwise x) ≡ None → (a otherwise y) ≡ None
+past a x y = still a a x y (λ e. e)
 
 nothing_at : (kind : _) (part : _) (o : Option ℕ) → o ≡ None → at kind part o ≡ None
 unfolding at
@@ -103,21 +82,6 @@ known_gives t d =
     (ok_passes (is_named d.entry t.function) _)
     (λ _ named. ok_weaken (λ _. unknown t d ≡ None) (λ _. IsKnownBy t d) (refused refusals.Name (unknown t d))
     (nothing_refused refusals.Name (unknown t d)) (λ _ none. record { entry = named; names = none }))
-
-record AreMet (t : NameTables) (d : NotesDraft) : Type 0 where
-  ordered : disordered d ≡ None
-  inside : stray d ≡ None
-  met : unmet t d ≡ None
-
-conditions_give : (t : NameTables) (d : NotesDraft) → IfOk (conditions.conditions t d) (λ _. AreMet t d)
-unfolding conditions.conditions
-conditions_give t d =
-    ok_then (λ _. disordered d ≡ None) (λ _. AreMet t d) (refused refusals.Range (disordered d)) _
-    (nothing_refused refusals.Range (disordered d))
-    (λ _ first. ok_then (λ _. stray d ≡ None) (λ _. AreMet t d) (refused refusals.Range (stray d)) _
-    (nothing_refused refusals.Range (stray d))
-    (λ _ second. ok_weaken (λ _. unmet t d ≡ None) (λ _. AreMet t d) (refused refusals.Range (unmet t d))
-    (nothing_refused refusals.Range (unmet t d)) (λ _ third. record { ordered = first; inside = second; met = third })))
 
 record AreNamed (t : NameTables) (d : NotesDraft) : Type 0 where
   once : once d ≡ Ok t
@@ -192,11 +156,9 @@ module _ (d : NotesDraft) (t : NameTables) (ps : List Point) (all : AllAccepted 
 
   unknown_kept : unknown t d ≡ None → unknown t printed ≡ None
   unfolding unknown
-  unknown_kept e =
-      let before = unknown_in_shapes t d ∷ unknown_in_statics t d ∷ unknown_in_thunks t d ∷ unknown_in_functions t d ∷ [] in
-      let behind = unknown_in_signatures t d ∷ unknown_in_sites t d ∷ [] in
-      still_none (before ++ unknown_in_points t d ∷ behind) (before ++ unknown_in_points t printed ∷ behind)
-      (kept_behind before (unknown_in_points t d ∷ behind) (unknown_in_points t printed ∷ behind) (λ e. names_found, same_kept behind)) e
+  unknown_kept = past (unknown_in_shapes t d) _ _ (past (unknown_in_statics t d) _ _ (past (unknown_in_thunks t d) _ _
+      (past (unknown_in_functions t d) _ _
+      (still (unknown_in_points t d) (unknown_in_points t printed) _ _ (λ e. names_found) (λ e. e)))))
 
   -- the conditions
 
@@ -206,19 +168,11 @@ module _ (d : NotesDraft) (t : NameTables) (ps : List Point) (all : AllAccepted 
   no_point q h = no_fault (λ p. q (point_locals t printed p.place) p) h
 
   ordered_kept : disordered d ≡ None → disordered printed ≡ None
-  ordered_kept e =
-      let functions = at list.Function key.Place (first_descent (map (λ (f : FunctionDraft). f.place) d.function)) in
-      let points = at list.Point key.Place (first_descent (map (λ (p : PointDraft). p.place) d.point)) in
-      let others = at list.Point key.Place (first_descent (map (λ (p : PointDraft). p.place) (map draft ps))) in
-      let sites = at list.Site key.Place (first_descent (map (λ (o : SiteDraft). o.place) d.site)) in
-      still_none (functions ∷ points ∷ sites ∷ []) (functions ∷ others ∷ sites ∷ []) (
-        λ e. e,
-        (
-          λ e. nothing_at list.Point key.Place (first_descent (map (λ (p : PointDraft). p.place) (map draft ps)))
-              (none_descends (λ (p : PointDraft). p.place) (map draft ps) places_up),
-          same_kept (sites ∷ []),
-        ),
-      ) e
+  ordered_kept =
+      let at_points : List PointDraft → Option Finding = λ qs. at list.Point key.Place (first_descent (map (λ q. q.place) qs)) in
+      past (at list.Function key.Place (first_descent (map (λ f. f.place) d.function))) _ _
+      (still (at_points d.point) (at_points (map draft ps)) _ _
+      (λ e. nothing_at list.Point key.Place _ (none_descends (λ (p : PointDraft). p.place) (map draft ps) places_up)) (λ e. e))
 
   inside_kept : stray printed ≡ None
   unfolding first_stray
@@ -236,31 +190,25 @@ module _ (d : NotesDraft) (t : NameTables) (ps : List Point) (all : AllAccepted 
       (neither_sooner _ _ (nothing_at list.Point key.Stack _ (no_point stack_is_local (λ p a. a.stack_local)))
       (nothing_at list.Point key.Written _ (no_point written_is_local (λ p a. a.written_local))))
 
-  thunkless_kept : conditions.thunkless d ≡ None → conditions.thunkless printed ≡ None
-  thunkless_kept e =
-      let functions = at list.Function key.Params (position (λ f. not (conditions.params_have_thunks (length d.thunk) f)) d.function) in
-      still_none (functions ∷ thunkless_points (length d.thunk) d.point ∷ [])
-      (functions ∷ thunkless_points (length d.thunk) (map draft ps) ∷ []) (λ e. e, (λ e. thunks_found, tt)) e
-
   met_kept : unmet t d ≡ None → unmet t printed ≡ None
   unfolding unmet locals_fields
-  met_kept e =
-      let before = conditions.unkept d ∷ conditions.unhanded d ∷ conditions.unpassed d ∷ conditions.unreturned d ∷ [] in
-      let behind = conditions.overfull t d ∷ conditions.too_large d ∷ [] in
-      let own : NotesDraft → List (Option Finding) = λ x. conditions.unfielded t x ∷ conditions.thunkless x ∷
-      conditions.mislocated t x ∷ behind in
-      still_none (before ++ own d) (before ++ own printed)
-      (kept_behind before (own d) (own printed) (
-        λ e. fields_found,
-        (
-          thunkless_kept,
-          (λ e. nothing_at list.Point key.Stack _ (no_point holds_locals (λ p a. a.holds)), same_kept behind),
-        ),
-      )) e
+  met_kept =
+      past (conditions.unkept d) _ _ (past (conditions.unhanded d) _ _ (past (conditions.unpassed d) _ _ (past (conditions.unreturned d) _ _
+      (still (conditions.unfielded t d) (conditions.unfielded t printed) _ _ (λ e. fields_found)
+      (still (conditions.thunkless d) (conditions.thunkless printed) _ _
+      (past (at list.Function key.Params (position (λ f. not (conditions.params_have_thunks (length d.thunk) f)) d.function)) _ _
+      (λ e. thunks_found))
+      (still (conditions.mislocated t d) (conditions.mislocated t printed) _ _
+      (λ e. nothing_at list.Point key.Stack _ (no_point holds_locals (λ p a. a.holds))) (λ e. e)))))))
 
-  conditions_kept : AreMet t d → conditions.conditions t printed ≡ Ok tt
+  conditions_kept : IfOk (conditions.conditions t d) (λ _. conditions.conditions t printed ≡ Ok tt)
   unfolding conditions.conditions
-  conditions_kept m = rw (ordered_kept m.ordered, inside_kept, met_kept m.met) refl
+  conditions_kept =
+      let P : Unit {0} → Type 0 = λ _. conditions.conditions t printed ≡ Ok tt in
+      ok_then (λ _. disordered d ≡ None) P (refused refusals.Range (disordered d)) _ (nothing_refused refusals.Range (disordered d))
+      (λ _ first. ok_next P (refused refusals.Range (stray d)) _
+      (λ _. ok_weaken (λ _. unmet t d ≡ None) P (refused refusals.Range (unmet t d)) (nothing_refused refusals.Range (unmet t d))
+      (λ _ third. rw (ordered_kept first, inside_kept, met_kept third) refl)))
 
   -- the whole
 
@@ -273,12 +221,119 @@ module _ (d : NotesDraft) (t : NameTables) (ps : List Point) (all : AllAccepted 
   unfolding resolved resolved_point point_locals locals_fields
   notes_kept h = ap (λ qs. record (resolved t d) { point = qs }) (all_points d t ps h)
 
-  stands : AreNamed t d → AreMet t d → AllPrinted t d ps → notes_in printed ≡ Ok (record (resolved t d) { point = ps })
+  stands : AreNamed t d → conditions.conditions t d ≡ Ok tt → AllPrinted t d ps
+      → notes_in printed ≡ Ok (record (resolved t d) { point = ps })
   unfolding notes_in
-  stands n m h = rw (names_kept n, conditions_kept m, notes_kept h) refl
+  stands n m h =
+      let met = ok_given (λ _. conditions.conditions t printed ≡ Ok tt) (conditions.conditions t d) tt m conditions_kept in
+      rw (names_kept n, met, notes_kept h) refl
 
 pub printed_accepted : PrintedPointsAreAccepted
 printed_accepted text d t h ps n up =
     let r = is_read text d t h in
-    stands d t ps (all_accepted d t r ps n) up (ok_given (λ t. AreNamed t d) (known_names d) t h.names (names_give d))
-    (ok_given (λ _. AreMet t d) (conditions.conditions t d) tt h.conditions (conditions_give t d)) (all_printed d t r ps n)
+    stands d t ps (all_accepted d t r ps n) up (ok_given (λ t. AreNamed t d) (known_names d) t h.names (names_give d)) h.conditions
+    (all_printed d t r ps n)
+
+-- ---- a document of notes with what is printed of points at the key `point` stands for the notes with these points
+
+same_tables : {A : Type 0} (reads : List ℕ → Members → Result A TomlFault) (key : List ℕ) (limit : ℕ) (a b : Members)
+    → get_member key a ≡ get_member key b → tables_at reads [] key limit a ≡ tables_at reads [] key limit b
+unfolding tables_at list_at array_at
+same_tables reads key limit a b e = rw e refl
+
+module _ (old new : Members) (others : (key : List ℕ) → bytes_eq key (codes "point") ≡ false → get_member key new ≡ get_member key old)
+    (keys : only_keys [] draft_keys new ≡ Ok tt) (few : ℕ → Type 0) (drafts : List PointDraft)
+    (printed : (version : ℕ) → few version → tables_at point_of [] (codes "point") (point_limit version) new ≡ Ok drafts) where
+  number_kept : number_at [] (codes "version") 1 2 new ≡ number_at [] (codes "version") 1 2 old
+  unfolding number_at
+  number_kept = rw (others (codes "version") refl) refl
+
+  entry_kept : text_at name_of [] (codes "entry") new ≡ text_at name_of [] (codes "entry") old
+  unfolding text_at
+  entry_kept = rw (others (codes "entry") refl) refl
+
+  signatures_kept : signatures_at [] new ≡ signatures_at [] old
+  unfolding signatures_at list_at array_at
+  signatures_kept = rw (others (codes "signature") refl) refl
+
+  data_kept : data_lists new ≡ data_lists old
+  unfolding data_lists
+  data_kept =
+      rw (
+        same_tables shape_of (codes "shape") 1024 new old (others (codes "shape") refl),
+        same_tables static_of (codes "static") greatest_32 new old (others (codes "static") refl),
+        same_tables thunk_of (codes "thunk") greatest_32 new old (others (codes "thunk") refl),
+      ) refl
+
+  points_kept : (version : ℕ) → few version
+      → IfOk (code_lists version old) (λ code. code_lists version new ≡ Ok (record code { point = drafts }))
+  unfolding code_lists
+  points_kept version small =
+      let P : CodeLists → Type 0 = λ code. code_lists version new ≡ Ok (record code { point = drafts }) in
+      ok_with P (tables_at function_of [] (codes "function") 4096 old) _
+      (λ functions a. ok_with P (tables_at point_of [] (codes "point") (point_limit version) old) _
+      (λ points b. rw (
+        same_tables function_of (codes "function") 4096 new old (others (codes "function") refl) ∙ a,
+        printed version small,
+      ) refl))
+
+  calls_kept : IfOk (call_lists old) (λ calls. call_lists new ≡ Ok calls)
+  unfolding call_lists
+  calls_kept =
+      let P : CallLists → Type 0 = λ calls. call_lists new ≡ Ok calls in
+      ok_with P (signatures_at [] old) _
+      (λ signatures a. ok_with P (tables_at site_of [] (codes "site") greatest_32 old) _
+      (λ sites b. ok_with P (only_keys [] draft_keys old) _
+      (λ _ c. rw (
+        signatures_kept ∙ a,
+        same_tables site_of (codes "site") greatest_32 new old (others (codes "site") refl) ∙ b,
+        keys,
+      ) refl)))
+
+  lists_kept : (version : ℕ) → few version → IfOk (draft_lists version old)
+      (λ lists. draft_lists version new ≡ Ok (record lists { code = record lists.code { point = drafts } }))
+  unfolding draft_lists
+  lists_kept version small =
+      let P : DraftLists → Type 0 = λ lists. draft_lists version new ≡ Ok (record lists { code = record lists.code { point = drafts } }) in
+      ok_with P (data_lists old) _
+      (λ things a. ok_then (λ code. code_lists version new ≡ Ok (record code { point = drafts })) P (code_lists version old) _
+      (points_kept version small)
+      (λ code b. ok_then (λ calls. call_lists new ≡ Ok calls) P (call_lists old) _ calls_kept
+      (λ calls c. rw (data_kept ∙ a, b, c) refl)))
+
+  version_read : IfOk (draft_of old) (λ d. number_at [] (codes "version") 1 2 old ≡ Ok d.version)
+  unfolding draft_of
+  version_read =
+      let P : NotesDraft → Type 0 = λ d. number_at [] (codes "version") 1 2 old ≡ Ok d.version in
+      ok_with P (number_at [] (codes "version") 1 2 old) _
+      (λ version a. search ok_next)
+
+  draft_kept : (v : ℕ) → number_at [] (codes "version") 1 2 old ≡ Ok v → few v
+      → IfOk (draft_of old) (λ d. draft_of new ≡ Ok (record d { point = drafts }))
+  unfolding draft_of
+  draft_kept v at small =
+      let P : NotesDraft → Type 0 = λ d. draft_of new ≡ Ok (record d { point = drafts }) in
+      rw at
+      (ok_with P (text_at name_of [] (codes "entry") old) _
+      (λ entry b. ok_then (λ lists. draft_lists v new ≡ Ok (record lists { code = record lists.code { point = drafts } })) P
+      (draft_lists v old) _ (lists_kept v small)
+      (λ lists c. rw (number_kept ∙ at, entry_kept ∙ b, c) refl)))
+
+stands_for : (text : List ℕ) (ms : Members) (q : NotesDraft) (notes : Notes) → document text ≡ Ok ms → draft_of ms ≡ Ok q
+    → notes_in q ≡ Ok notes → notes_of text ≡ Ok notes
+unfolding notes_of
+stands_for text ms q notes a b c = rw (a, b, c) refl
+
+pub printed_stand : PrintedPointsStand
+printed_stand text next d t h ps n up few new read has =
+    let notes = resolved t d in
+    let drafts = map (point_draft notes) ps in
+    let small : ℕ → Type 0 = λ version. length ps ≤ point_limit version in
+    let lists : (version : ℕ) → small version → tables_at point_of [] (codes "point") (point_limit version) new ≡ Ok drafts =
+    λ version room. same_tables point_of (codes "point") (point_limit version) new (points_members notes ps) has.list
+    ∙ tables_again d t ps (point_limit version) (all_printed d t (is_read text d t h) ps n) room in
+    let version = ok_given (λ (q : NotesDraft). number_at [] (codes "version") 1 2 h.members ≡ Ok q.version) (draft_of h.members) d h.draft
+    (version_read h.members new has.others has.keys small drafts lists) in
+    let draft = ok_given (λ (q : NotesDraft). draft_of new ≡ Ok (record q { point = drafts })) (draft_of h.members) d h.draft
+    (draft_kept h.members new has.others has.keys small drafts lists d.version version few) in
+    stands_for next new (with_printed d t ps) _ read draft (printed_accepted text d t h ps n up)

@@ -1,6 +1,6 @@
 -- Worked rows: the driver's notes of docs/NOTES.md without a point, and behind them what is printed of one, are one document: that of
 -- the notes with the point among their tables.
-use Rattle.point_laws.proofs.Common.{◌≡◌, ℕ, true, List, ◌++◌, codes, refl, is_some, parse_document}
+use Rattle.point_laws.proofs.Common.{codes, is_some, List, parse_document, refl, true, ℕ, ◌++◌, ◌≡◌}
 use Rattle.toml.proofs.OnLiterals.{toml_on_literals}
 
 abbrev before : List ℕ

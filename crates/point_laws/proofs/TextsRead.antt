@@ -1,15 +1,14 @@
 -- What is printed of registers, items and names is read as these, and is plain.
-use Rattle.point_laws.proofs.Common.{◌≡◌, ℕ, ◌+◌, ◌≤◌, true, not, List, [], ◌∷◌, ◌++◌, map, Option, Some, refl, arith, codes, decimal}
-use Rattle.point_laws.proofs.Common.{AllByRecursion, range_with_len, IsKnown, IsState, local_fields, type_of, SlotKind, Item, FnNote, Notes}
-use Rattle.point_laws.proofs.Common.{State, AreNames, HaveNames, named_type, is_left_out, item_text, item_texts, register_text, IsName}
-use Rattle.point_laws.proofs.Common.{register_texts, told_up_to, item_draft, register_draft, pos, length, ap, ◌∙◌, nat_le, Ok, Result}
-use Rattle.point_laws.proofs.Common.{subst, le-leb, integer, array, Members, get_member, name_of, TomlFault, number_at, only_keys}
-use Rattle.point_laws.proofs.Common.{row_prefix, text_of, array_at, count, count_beside, each, list_at, row_of, rows_of, tables_at}
-use Rattle.point_laws.proofs.Common.{texts_at, texts_of, item_of, register_of, ItemText, RegisterText, greatest_32, point_of, members_of}
-use Rattle.point_laws.proofs.Common.{strings, tables_of, kind_text, Slot, Locals, texts_beside_at, item_read, register_read}
-use Rattle.point_laws.proofs.Common.{name_of-complete, type_text, type_spelled, greatest_64, last_place, point_made, map-id}
-use Rattle.point_laws.proofs.TomlTexts.{are_plain, decimal_plain, name_plain, plain-append, type_plain, AllPlain}
+use Rattle.point_laws.proofs.Common.{AllByRecursion, map, name_of-complete, range_with_len, register_draft, register_texts, texts_beside_at}
+use Rattle.point_laws.proofs.Common.{ap, Ok, [], ◌∙◌, ◌∷◌, ◌≡◌, ◌≤◌}
+use Rattle.point_laws.proofs.Common.{AreNames, get_member, HaveNames, item_draft, item_texts, named_type, row_prefix, told_up_to, TomlFault}
+use Rattle.point_laws.proofs.Common.{arith, array, codes, count, each, List, pos, refl, row_of, Slot, Some, State, subst, true, ◌++◌, ◌+◌}
+use Rattle.point_laws.proofs.Common.{array_at, item_read, item_text, kind_text, Notes, number_at, SlotKind, tables_at, tables_of, type_text}
+use Rattle.point_laws.proofs.Common.{count_beside, is_left_out, Item, local_fields, register_of, register_read, register_text, type_spelled}
+use Rattle.point_laws.proofs.Common.{decimal, integer, IsKnown, IsState, item_of, list_at, Members, name_of, rows_of, texts_at, texts_of, ℕ}
+use Rattle.point_laws.proofs.Common.{FnNote, IsName, le-leb, length, Locals, map-id, nat_le, not, Option, Result, strings, text_of, type_of}
 use Rattle.point_laws.proofs.NoneAgain.{all_kept, all_map, all_range, each_of}
+use Rattle.point_laws.proofs.TomlTexts.{AllPlain, are_plain, decimal_plain, name_plain, plain-append, type_plain}
 use Rattle.note_types.specs.declared.cell.SlotKind.TheVariants as kinds
 use Rattle.note_types.specs.declared.items.Item.TheVariants as item_of
 use Rattle.note_texts.specs.SlotTexts as slots
@@ -123,42 +122,23 @@ count_strings (t ∷ ts) = let e : count (strings ts) ≡ length ts = count_stri
 
 -- ---- the keys of a point
 
-number_found : (prefix key : List ℕ) (low high n : ℕ) (ms : Members) → get_member key ms ≡ Some (integer (pos n)) → low ≤ n → n ≤ high
+pub number_found : (prefix key : List ℕ) (low high n : ℕ) (ms : Members) → get_member key ms ≡ Some (integer (pos n)) → low ≤ n → n ≤ high
     → number_at prefix key low high ms ≡ Ok n
 unfolding number_at
 number_found prefix key low high n ms here at_least at_most = rw (here, le-leb low n at_least, le-leb n high at_most) refl
 
-texts_found : {A : Type 0} (reads : List ℕ → Option A) (prefix key : List ℕ) (limit : ℕ) (ms : Members) (ts : List (List ℕ)) (xs : List A)
-    → get_member key ms ≡ Some (array (strings ts)) → length ts ≤ limit → texts_of reads (prefix ++ key) (strings ts) ≡ Ok xs
+pub texts_found : {A : Type 0} (reads : List ℕ → Option A) (prefix key : List ℕ) (limit : ℕ) (ms : Members) (ts : List (List ℕ))
+    (xs : List A) → get_member key ms ≡ Some (array (strings ts)) → length ts ≤ limit → texts_of reads (prefix ++ key) (strings ts) ≡ Ok xs
     → texts_at reads prefix key limit ms ≡ Ok xs
 unfolding texts_at list_at array_at
 texts_found reads prefix key limit ms ts xs here few read =
     rw (here, ap (λ n. nat_le n limit) (count_strings ts) ∙ le-leb (length ts) limit few, read) refl
 
-beside_found : {A : Type 0} (reads : List ℕ → Option A) (prefix key beside : List ℕ) (limit : ℕ) (ms : Members) (ts : List (List ℕ))
+pub beside_found : {A : Type 0} (reads : List ℕ → Option A) (prefix key beside : List ℕ) (limit : ℕ) (ms : Members) (ts : List (List ℕ))
     (xs : List A) → get_member key ms ≡ Some (array (strings ts)) → nat_le (count_beside beside (strings ts)) limit ≡ true
     → texts_of reads (prefix ++ key) (strings ts) ≡ Ok xs → texts_beside_at reads prefix key limit beside ms ≡ Ok xs
 unfolding texts_beside_at array_at
 beside_found reads prefix key beside limit ms ts xs here few read = rw (here, few, read) refl
-
-pub point_read : (prefix : List ℕ) (place made : ℕ) (regs stack written : List (List ℕ)) (rs : List RegisterText) (xs : List ItemText)
-    (ws : List (List ℕ)) → place ≤ last_place → made ≤ greatest_32 → length regs ≤ greatest_64
-    → nat_le (count_beside (codes "locals") (strings stack)) 64 ≡ true → length written ≤ greatest_64
-    → texts_of register_of (prefix ++ codes "regs") (strings regs) ≡ Ok rs
-    → texts_of item_of (prefix ++ codes "stack") (strings stack) ≡ Ok xs
-    → texts_of name_of (prefix ++ codes "written") (strings written) ≡ Ok ws
-    → point_of prefix (members_of place made regs stack written) ≡ Ok
-    (record { place = place; regs = rs; stack = xs; written = ws; made = made })
-unfolding point_of point_made only_keys
-point_read prefix place made regs stack written rs xs ws inside few short beside shorter first second third =
-    let ms = members_of place made regs stack written in
-    rw (
-      number_found prefix (codes "place") 0 last_place place ms refl (omega arith) inside,
-      texts_found register_of prefix (codes "regs") greatest_64 ms regs rs refl short first,
-      beside_found item_of prefix (codes "stack") (codes "locals") 64 ms stack xs refl beside second,
-      texts_found name_of prefix (codes "written") greatest_64 ms written ws refl shorter third,
-      number_found prefix (codes "made") 0 greatest_32 made ms refl (omega arith) few,
-    ) refl
 
 -- ---- lists of tables
 

@@ -1,16 +1,15 @@
 -- What is printed of points is a document of TOML: its lines are read one after the other.
-use Rattle.point_laws.proofs.Common.{◌≡◌, ℕ, ◌+◌, ◌%◌, ◌^◌, ◌<◌, ◌≤◌, pos, suc, Bool, true, false, not, ◌&&◌, ◌==◌, List, [], ◌∷◌, ◌++◌}
-use Rattle.point_laws.proofs.Common.{length, refl, ap, ◌∙◌, inl, inr, ⊎_elim, arith, codes, nat_le, and_parts, nat_tests, decimal, list_all}
-use Rattle.point_laws.proofs.Common.{is_name, IsName, AreNames, ◌-◌, Option, Some, None, sym, append_assoc, map, option_and_then}
-use Rattle.point_laws.proofs.Common.{AllByRecursion, flat_map, list_any, skip_from-nil, key_text, integer, array, Items, no_items, item}
-use Rattle.point_laws.proofs.Common.{Document, Expression, define, key_value, lines, IsLineText, lines_end, AllPrinted, run, array_line}
-use Rattle.point_laws.proofs.Common.{in_quotes, listed, strings, ℤ, negsuc, decimal_by_steps, list_all-append, signed_decimal, begins_name}
-use Rattle.point_laws.proofs.Common.{continues_name, IsNear, IsUnits, IsIntText, IsOffsetText, IsTypeText, grants_text, pair_text}
-use Rattle.point_laws.proofs.Common.{range_text, IsCellText, IsCounted, mark_of, CellText, TypeText, skip_blank, is_control, items_depth}
-use Rattle.point_laws.proofs.Common.{items_have_valid_dates, line, IsItemsText, IsValueText, breaks_lines, lines_more, lines_refused}
-use Rattle.point_laws.proofs.Common.{skip_newline, skip_within, line_turn}
-use Rattle.toml_writer.specs.Text.{encoding_of, escaped, needs_escape, quotes_after, string_text}
+use Rattle.point_laws.proofs.Common.{AllByRecursion, AllPrinted, decimal_by_steps, items_have_valid_dates, list_all-append, option_and_then}
+use Rattle.point_laws.proofs.Common.{and_parts, AreNames, Bool, in_quotes, IsIntText, key_value, line_turn, lines_end, nat_tests, pair_text}
+use Rattle.point_laws.proofs.Common.{ap, map, not, pos, run, suc, sym, [], ℤ, ◌%◌, ◌+◌, ◌-◌, ◌<◌, ◌^◌, ◌∙◌, ◌∷◌, ◌≡◌, ◌≤◌}
+use Rattle.point_laws.proofs.Common.{append_assoc, breaks_lines, continues_name, IsOffsetText, lines_refused, signed_decimal, skip_from-nil}
+use Rattle.point_laws.proofs.Common.{arith, array, codes, false, inr, item, Items, line, lines, None, refl, Some, true, ℕ, ◌&&◌, ◌++◌, ◌==◌}
+use Rattle.point_laws.proofs.Common.{array_line, is_control, IsCounted, IsLineText, IsTypeText, IsUnits, lines_more, range_text, skip_blank}
+use Rattle.point_laws.proofs.Common.{CellText, decimal, Document, flat_map, integer, key_text, List, list_all, list_any, no_items, TypeText}
+use Rattle.point_laws.proofs.Common.{define, inl, is_name, IsName, IsNear, length, listed, mark_of, nat_le, negsuc, Option, strings, ⊎_elim}
+use Rattle.point_laws.proofs.Common.{Expression, grants_text, IsCellText, IsItemsText, IsValueText, items_depth, skip_newline, skip_within}
 use Rattle.point_laws.proofs.NoneAgain.{all_so}
+use Rattle.toml_writer.specs.Text.{encoding_of, escaped, needs_escape, quotes_after, string_text}
 use Rattle.note_texts.specs.declared.cell.CellText.TheVariants as cells
 use Rattle.note_texts.specs.declared.ty.TypeText.TheVariants as types
 
@@ -32,9 +31,7 @@ pub name_plain : (name : List ℕ) → IsName name → are_plain name ≡ true
 unfolding is_name
 name_plain [] h = refl
 name_plain (x ∷ xs) h =
-    let p = and_parts (begins_name x) (nat_le (length xs) 62 && list_all continues_name xs) h in
-    let q = and_parts (nat_le (length xs) 62) (list_all continues_name xs) p.1 in
-    all_so continues_name is_plain (λ b continues. grind (arith, nat_tests)) (x ∷ xs) (rw (p.0, q.1) refl)
+    all_so continues_name is_plain (λ b continues. grind (arith, nat_tests)) (x ∷ xs) (grind (arith, nat_tests))
 
 pub names_plain : (names : List (List ℕ)) → AreNames names → are_plain (grants_text names) ≡ true
 names_plain [] h = refl
@@ -67,8 +64,7 @@ range_plain lo hi order high = plain-append (decimal lo) (codes ".." ++ decimal 
 -- ---- pointers
 
 mark_plain : (null : Bool) (rest : List ℕ) → are_plain rest ≡ true → are_plain (mark_of null ++ rest) ≡ true
-mark_plain true rest h = h
-mark_plain false rest h = h
+mark_plain null rest h = grind arith
 
 counted_plain : (text shape : List ℕ) (count : ℕ) → IsCounted text shape count → are_plain text ≡ true
 counted_plain text shape count h = ⊎_elim
@@ -128,15 +124,7 @@ record IsBare (c : ℕ) : Type 0 where
   printed : nat_le 32 c ≡ true
 
 bare : (c : ℕ) → is_plain c ≡ true → IsBare c
-bare c h =
-    record {
-      quote = grind (arith, nat_tests);
-      feed = grind (arith, nat_tests);
-      backslash = grind (arith, nat_tests);
-      tab = grind (arith, nat_tests);
-      delete = grind (arith, nat_tests);
-      printed = grind (arith, nat_tests);
-    }
+bare c h = grind (arith, nat_tests)
 
 not_escaped : (s : List ℕ) → are_plain s ≡ true → escaped false 0 s ≡ s
 unfolding escaped needs_escape quotes_after

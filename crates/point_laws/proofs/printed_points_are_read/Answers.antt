@@ -1,5 +1,4 @@
-use Rattle.point_laws.proofs.{DocumentKept.printed_stand, PointsStand.printed_accepted, PointsRead.printed_points}
-use Rattle.point_laws.proofs.PointsRead.{printed_tables}
+use Rattle.point_laws.proofs.{PointsRead.printed_points, PointsRead.printed_tables, PointsStand.printed_accepted, PointsStand.printed_stand}
 use Rattle.point_laws.proofs.printed_points_are_read.Goals as goal
 
 pub returns-clause-tables : goal.returns-clause-tables
