@@ -582,8 +582,9 @@ end 21 gate finished any
 
 # ---- CALLs that haven't returned
 #
-# The native area of this driver has 1,027 things, and its stack nine times 44 or 56 bytes. So at 32 the stack begins at 0x104040, the image
-# at 0x1041e0 and the object at 0x1071f0. At 64 these are 0x200004040, 0x200004250 and 0x200007260.
+# The native area of this driver has 1,030 things, with a thunk of each function, and its stack nine times 44 or 56 bytes. So at 32 the
+# stack begins at 0x104070, the image at 0x104210 and the object at 0x107220. At 64 these are 0x200004070, 0x200004280 and 0x200007290.
+# The thunk of tick lies at 0x40 in the native area. Its cell holds at first 0x1024 less 0x2004.
 
 lines '.global main' 'main: | MOVRELd R7, cell | BREAK 5 | MOVnw R4, @R0(+1,+16) | CALL32 sub | RET' \
   'sub: | MOVRELd R5, cell | PUSHn @R5 | CALL32EXa @R4 | MOVqw R0, R0(+1,+0) | RET' 'tick: | CALL32 inner | RET' \
@@ -612,53 +613,53 @@ calls 'CALLs outside a callback and in it, at 32' 32 11 <<'.'
 step 11 0000102c inner+0x0 MOVIqw R7, 0
   R7 0000000000000000
 state
-  R0 000000000010417c stack+0x13c
+  R0 00000000001041ac stack+0x13c
   R1 0000000000000000
   R2 0000000000000000
   R3 0000000000000000
-  R4 00000000001071f0 ptr 0 0
-  R5 00000000001061e0 image+0x2000
+  R4 0000000000107220 ptr 0 0
+  R5 0000000000106210 image+0x2000
   R6 0000000000000000
   R7 0000000000000000
-  ip 0000000000105210 inner+0x4
+  ip 0000000000105240 inner+0x4
   C 0
-  back 000000000010520a tick+0x6
-  entered tick 00000000001051fe sub+0xa
+  back 000000000010523a tick+0x6
+  entered tick 000000000010522e sub+0xa
   called 0 register
-  back 00000000001051f2 main+0x12
+  back 0000000000105222 main+0x12
   entered main 0000000000100000 gate
-  bytes 00000000001061e0 image+0x2000 ..001000........................
+  bytes 0000000000106210 image+0x2000 40001000........................
 end 11 00001030 running
 .
 calls 'CALLs outside a callback and in it, at both' both 11 <<'.'
 step 11 0000102c inner+0x0 MOVIqw R7, 0
   R7 0000000000000000
 state
-  32 R0 000000000010417c stack+0x13c
-  64 R0 00000002000041d8 stack+0x198
+  32 R0 00000000001041ac stack+0x13c
+  64 R0 0000000200004208 stack+0x198
   R1 0000000000000000
   R2 0000000000000000
   R3 0000000000000000
-  32 R4 00000000001071f0 ptr 0 0
-  64 R4 0000000200007260 ptr 0 0
-  32 R5 00000000001061e0 image+0x2000
-  64 R5 0000000200006250 image+0x2000
+  32 R4 0000000000107220 ptr 0 0
+  64 R4 0000000200007290 ptr 0 0
+  32 R5 0000000000106210 image+0x2000
+  64 R5 0000000200006280 image+0x2000
   R6 0000000000000000
   R7 0000000000000000
-  32 ip 0000000000105210 inner+0x4
-  64 ip 0000000200005280 inner+0x4
+  32 ip 0000000000105240 inner+0x4
+  64 ip 00000002000052b0 inner+0x4
   C 0
-  32 back 000000000010520a tick+0x6
-  64 back 000000020000527a tick+0x6
-  32 entered tick 00000000001051fe sub+0xa
-  64 entered tick 000000020000526e sub+0xa
+  32 back 000000000010523a tick+0x6
+  64 back 00000002000052aa tick+0x6
+  32 entered tick 000000000010522e sub+0xa
+  64 entered tick 000000020000529e sub+0xa
   called 0 register
-  32 back 00000000001051f2 main+0x12
-  64 back 0000000200005262 main+0x12
+  32 back 0000000000105222 main+0x12
+  64 back 0000000200005292 main+0x12
   32 entered main 0000000000100000 gate
   64 entered main 0000000200000000 gate
-  32 bytes 00000000001061e0 image+0x2000 ..001000........................
-  64 bytes 0000000200006250 image+0x2000 ..00000002......................
+  32 bytes 0000000000106210 image+0x2000 40001000........................
+  64 bytes 0000000200006280 image+0x2000 4000000002......................
 end 11 00001030 running
 .
 
@@ -666,9 +667,9 @@ end 11 00001030 running
 opened() { edited '/^step/d;/^  \(R[0-7]\|C\|ip\|store\|bytes\|return\) /d' "$1" 0 32 "${3:-calls}".efi "${3:-calls}".notes "${3:-calls}".script "$2" "$2"; }
 opened 'once a CALL in a callback has returned' 12 <<'.'
 state
-  entered tick 00000000001051fe sub+0xa
+  entered tick 000000000010522e sub+0xa
   called 0 register
-  back 00000000001051f2 main+0x12
+  back 0000000000105222 main+0x12
   entered main 0000000000100000 gate
 end 12 0000102a running
 .
