@@ -2,7 +2,8 @@
 
 ghost use Rattle.std.specs.Prelude.{◌≡◌, ◌<◌, ◌^◌};
 ghost use Rattle.natural_index.specs.Index.{IsIndexSize, index_of};
-ghost use Rattle.asm_text.specs.Indexes.{are_signs, bytes_part, first_part, index, pair_index, raw_index, raw_part, second_part, smallest_of};
+ghost use Rattle.asm_text.specs.Indexes.{are_signs, bytes_part, first_part, index, pair_index, raw_index, raw_part, second_part};
+ghost use Rattle.asm_text.specs.Indexes.{smallest_of};
 
 use crate::fault::{AsmFault, both};
 use crate::numbers::{count, digits};

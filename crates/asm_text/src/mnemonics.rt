@@ -1,7 +1,10 @@
 //! Mnemonics as they are read.
 
 ghost use Rattle.std.specs.Prelude.{◌≡◌, IfSome};
-ghost use Rattle.asm_text.specs.Mnemonics.{FormFits, arith_form, arith_of, bare_form, bits_at, call_end, call_form, cmp_of, compare_form, compare_imm_form, cond_of, form_of, jump_end, jump_form, logic_of, long_at, move_imm_letters, move_letters, other_form, pop_form, push_form, relative_letter, size_at, stem_form, stem_of, wide_of};
+ghost use Rattle.asm_text.specs.Mnemonics.{FormFits, arith_form, arith_of, bare_form, bits_at, call_end, call_form, cmp_of, compare_form};
+ghost use Rattle.asm_text.specs.Mnemonics.{compare_imm_form, cond_of, form_of, jump_end, jump_form, logic_of, long_at, move_imm_letters};
+ghost use Rattle.asm_text.specs.Mnemonics.{move_letters, other_form, pop_form, push_form, relative_letter, size_at, stem_form, stem_of};
+ghost use Rattle.asm_text.specs.Mnemonics.{wide_of};
 
 use crate::form::Form;
 use ebc_insn::{ArithOp, CmpOp, Cond, Size};

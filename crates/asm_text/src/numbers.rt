@@ -2,7 +2,8 @@
 
 ghost use Rattle.std.specs.Prelude.{◌≡◌, ◌⊎◌, ◌<◌, IfOk, IfSome};
 ghost use Rattle.ebc_insn.specs.Spelling.{FitsInt};
-ghost use Rattle.asm_text.specs.Numbers.{are_digits, count, decimal_value, digit_of, digits_from, fit, hex_value, is_decimal, is_hexadecimal, is_numeral, is_plain, number, number_value, plain_value, with_digit, zeros_of};
+ghost use Rattle.asm_text.specs.Numbers.{are_digits, count, decimal_value, digit_of, digits_from, fit, hex_value, is_decimal};
+ghost use Rattle.asm_text.specs.Numbers.{is_hexadecimal, is_numeral, is_plain, number, number_value, plain_value, with_digit, zeros_of};
 
 use crate::fault::AsmFault;
 

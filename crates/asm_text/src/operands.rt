@@ -4,7 +4,8 @@ ghost use Rattle.std.specs.Prelude.{◌≡◌, ◌⊎◌, IfOk, Some, option_map
 ghost use Rattle.natural_index.specs.Index.{IsIndexSize};
 ghost use Rattle.ebc_insn.specs.Spelling.{FitsInt};
 ghost use Rattle.asm_text.specs.Faults.{made};
-ghost use Rattle.asm_text.specs.Operands.{at_value, bare, extra, flags_special, left, near_target, operand_of, register, register_of, right, special, target, value};
+ghost use Rattle.asm_text.specs.Operands.{at_value, bare, extra, flags_special, left, near_target, operand_of, register, register_of};
+ghost use Rattle.asm_text.specs.Operands.{right, special, target, value};
 ghost use Rattle.asm_text.specs.Texts.{seen_name, seen_target, seen_value};
 
 use crate::fault::AsmFault;

@@ -1,7 +1,8 @@
 //! Where texts are split.
 
 ghost use Rattle.std.specs.Prelude.{◌≡◌, ◌≤◌, IsTrue, length, option_map};
-ghost use Rattle.asm_text.specs.Splits.{cut, halves, lacks, sole, starts_cut, trim, trim_back, trim_front, until, without_comment, word_part};
+ghost use Rattle.asm_text.specs.Splits.{cut, halves, lacks, sole, starts_cut, trim, trim_back, trim_front, until, without_comment};
+ghost use Rattle.asm_text.specs.Splits.{word_part};
 
 // What stands before the first such byte, and behind it.
 pub(crate) fn until(byte: u8, text: &[u8]) -> Option<(&[u8], &[u8])>

@@ -8,7 +8,8 @@ ghost use Rattle.asm_text.specs.Faults.{made};
 ghost use Rattle.asm_text.specs.Numbers.{number};
 ghost use Rattle.asm_text.specs.Instructions.{one};
 ghost use Rattle.asm_text.specs.Statements.{alone, directed, directive_of, name, numbers_of, statement_of};
-ghost use Rattle.asm_text.specs.Texts.{AreNumbers, DirectiveFits, IsHeld, IsNumberSize, are_read, bytes_of_number, bytes_of_numbers, bytes_read, seen, seen_numbers};
+ghost use Rattle.asm_text.specs.Texts.{AreNumbers, DirectiveFits, IsHeld, IsNumberSize, are_read, bytes_of_number, bytes_of_numbers};
+ghost use Rattle.asm_text.specs.Texts.{bytes_read, seen, seen_numbers};
 
 use crate::directive::Directive;
 use crate::fault::AsmFault;

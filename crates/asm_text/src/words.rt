@@ -1,7 +1,8 @@
 //! Mnemonics as they are written.
 
 ghost use Rattle.std.specs.Prelude.{◌≡◌, ◌∷◌, ◌++◌, Some, []};
-ghost use Rattle.asm_text.specs.Mnemonics.{relative_text, arith_stem, bits_letter, cmp_text, cond_text, long_text, native_text, size_letter, stem_of_form, suffix_of_form, wide_text, word_of};
+ghost use Rattle.asm_text.specs.Mnemonics.{relative_text, arith_stem, bits_letter, cmp_text, cond_text, long_text, native_text};
+ghost use Rattle.asm_text.specs.Mnemonics.{size_letter, stem_of_form, suffix_of_form, wide_text, word_of};
 
 use crate::form::Form;
 use ebc_insn::{ArithOp, CmpOp, Cond, Size};

@@ -48,7 +48,8 @@ pub fn gather<const W: usize>(
     requires width { IsWidth W }
     requires frame { 0 < length frames.old }
     requires few { length signature.now.params ≤ 16 }
-    ensures copied { OnOk result (IsSomeAnd (slots_from W (memory_state mem.now) r0 signature.now.params) (λ numbers. frames.new ≡ with_arguments numbers frames.old)) }
+    ensures copied { OnOk result (IsSomeAnd (slots_from W (memory_state mem.now) r0 signature.now.params)
+        (λ numbers. frames.new ≡ with_arguments numbers frames.old)) }
     ensures stack { (result ≡ Err ThunkFault.Stack) ↔ (slots_from W (memory_state mem.now) r0 signature.now.params ≡ None) }
     ensures same { OnErr result (frames.new ≡ frames.old) }
 {

@@ -11,7 +11,8 @@ ghost use Rattle.cli_base.specs.Outcomes.{IsAnswer, ReadsAll};
 ghost use Rattle.cli_base.specs.Outputs.{printed, written_name};
 ghost use Rattle.cli_base.specs.Readings.{AsksPart, CommandAnswer, Follows, IfStop, MissingHasCause};
 ghost use Rattle.cli_base.specs.Words.{word_bytes};
-ghost use Rattle.code_places.specs.Answers.{Answers, Decides, IsPrinted, ShowsImage, answer_of, answer_text, file_named, run_of, usage_reply};
+ghost use Rattle.code_places.specs.Answers.{Answers, Decides, IsPrinted, ShowsImage, answer_of, answer_text, file_named, run_of};
+ghost use Rattle.code_places.specs.Answers.{usage_reply};
 ghost use Rattle.code_places.specs.Places.{places_text};
 
 use crate::line::places_text;
@@ -104,7 +105,8 @@ fn decide<F: Folder>(alloc: Global, words: &Vec<String>, folder: &mut F) -> Resu
     ensures decided { IfSome (F.contents folder.old) (λ files.
         Decides (F.asked folder.old) (F.asked folder.new) result (run_of (word_bytes words.now) files)) }
     ensures reply { IfOk result (IsPrinted (word_bytes words.now)) }
-    ensures missing { IfOk result (λ r. MissingHasCause (F.contents folder.old) (F.read_faults folder.old) (F.read_faults folder.new) r.outcome) }
+    ensures missing { IfOk result (λ r.
+        MissingHasCause (F.contents folder.old) (F.read_faults folder.old) (F.read_faults folder.new) r.outcome) }
     ensures ends { IfErr result (λ end. (end ≡ Outcome.ReadFault) ⊎ (end ≡ Outcome.NoMemory)) }
     ensures fault { IsErrOf result Outcome.ReadFault → Rose (F.read_faults folder.old) (F.read_faults folder.new) }
     ensures uncounted { IfSome (F.contents folder.old) (λ _. ¬ IsErrOf result Outcome.ReadFault →

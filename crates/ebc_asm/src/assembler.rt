@@ -102,7 +102,8 @@ impl Assembler {
         requires held { IsHeldLine line.now }
         requires fits { Fits self.old }
         ensures fits { OnOk result (Fits self.new) }
-        ensures takes { (texts : List (List ℕ)) → AreLabels labels.now texts → (before : List lines.Line) → Holds before self.old → Takes result texts before (seen_line line.now) self.new }
+        ensures takes { (texts : List (List ℕ)) → AreLabels labels.now texts → (before : List lines.Line) → Holds before self.old →
+            Takes result texts before (seen_line line.now) self.new }
     {
         let global = global_of(&line.statement);
         if !global_is_known(alloc, labels, global)? {
@@ -132,7 +133,8 @@ impl Assembler {
     ) -> Result<(), LineEnd>
         requires fits { Fits self.old }
         ensures fits { OnOk result (Fits self.new) }
-        ensures takes { (texts : List (List ℕ)) → AreLabels labels.now texts → (before : List lines.Line) → Holds before self.old → TakesText result texts before text.now self.new }
+        ensures takes { (texts : List (List ℕ)) → AreLabels labels.now texts → (before : List lines.Line) → Holds before self.old →
+            TakesText result texts before text.now self.new }
     {
         let line = line_in(text)?;
         self.take(alloc, labels, &line)

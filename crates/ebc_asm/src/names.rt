@@ -116,7 +116,9 @@ impl Names {
     fn make_global(&mut self, alloc: Global, text: &str) -> Result<(), NoMemory>
         requires { length self.old.places.items ≡ length self.old.table }
         ensures table { OnOk result (self.new.table ≡ with_name text.now self.old.table) }
-        ensures places { OnOk result (self.new.places.items ≡ replaced text.now self.old.table self.old.places.items (record (standing_of text.now self.old.table self.old.places.items) { global = 1 })) }
+        ensures places { OnOk result (self.new.places.items ≡
+            replaced text.now self.old.table self.old.places.items
+            (record (standing_of text.now self.old.table self.old.places.items) { global = 1 })) }
         ensures beside { OnOk result (length self.new.places.items ≡ length self.new.table) }
     {
         let number = self.number(alloc, text)? as usize;
@@ -157,7 +159,8 @@ impl Names {
     pub fn take_global(&mut self, alloc: Global, global: Option<&str>) -> Result<(), NoMemory>
         requires { length self.old.places.items ≡ length self.old.table }
         ensures table { OnOk result (self.new.table ≡ and_name (seen_name global.entry) self.old.table) }
-        ensures places { OnOk result (self.new.places.items ≡ and_global_place (seen_name global.entry) self.old.table self.old.places.items) }
+        ensures places { OnOk result (self.new.places.items ≡
+            and_global_place (seen_name global.entry) self.old.table self.old.places.items) }
         ensures beside { OnOk result (length self.new.places.items ≡ length self.new.table) }
     {
         match global {

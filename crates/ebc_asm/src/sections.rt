@@ -71,7 +71,8 @@ impl Section {
         ensures table { OnOk result (names.new.table ≡ with_name u.now.name.now names.old.table) }
         ensures places { OnOk result (names.new.places.items ≡ and_place u.now.name.now names.old.table names.old.places.items) }
         ensures beside { OnOk result (length names.new.places.items ≡ length names.new.table) }
-        ensures fixups { OnOk result (self.new.fixups.items ≡ self.old.fixups.items ++ fixup_of in_data offset names.new.table (seen_use u.now) ∷ []) }
+        ensures fixups { OnOk result (self.new.fixups.items ≡
+            self.old.fixups.items ++ fixup_of in_data offset names.new.table (seen_use u.now) ∷ []) }
     {
         let symbol = names.number(alloc, u.name)?;
         let kind = u.kind;
@@ -101,9 +102,12 @@ impl Section {
         requires beside { length names.old.places.items ≡ length names.old.table }
         ensures bytes { Appends result self.old.bytes.items (bytes_of (seen_statement statement.now)) self.new.bytes.items }
         ensures table { OnOk result (names.new.table ≡ and_name (used_name (use_of (seen_statement statement.now))) names.old.table) }
-        ensures places { OnOk result (names.new.places.items ≡ and_used_place (used_name (use_of (seen_statement statement.now))) names.old.table names.old.places.items) }
+        ensures places { OnOk result (names.new.places.items ≡
+            and_used_place (used_name (use_of (seen_statement statement.now))) names.old.table names.old.places.items) }
         ensures beside { OnOk result (length names.new.places.items ≡ length names.new.table) }
-        ensures fixups { OnOk result (self.new.fixups.items ≡ self.old.fixups.items ++ fixups_of in_data (length self.old.bytes.items) names.new.table (use_of (seen_statement statement.now))) }
+        ensures fixups { OnOk result (self.new.fixups.items ≡
+            self.old.fixups.items ++
+            fixups_of in_data (length self.old.bytes.items) names.new.table (use_of (seen_statement statement.now))) }
     {
         let offset = self.bytes.len() as u32;
         append(statement, &mut self.bytes)?;

@@ -1,6 +1,7 @@
 //! The commands that words spell.
 ghost use Rattle.std.specs.Prelude.{◌≡◌, [], ◌∷◌, map, string_bytes, IfOk};
-ghost use Rattle.ebc_cli.specs.Commands.{command_of, driver_of, of_file, of_five_words, of_nine_words, of_six_words, of_two_files, pairing_of, running_of, sampling_of, taking_of, twinning_of, wrapping_of};
+ghost use Rattle.ebc_cli.specs.Commands.{command_of, driver_of, of_file, of_five_words, of_nine_words, of_six_words, of_two_files};
+ghost use Rattle.ebc_cli.specs.Commands.{pairing_of, running_of, sampling_of, taking_of, twinning_of, wrapping_of};
 ghost use Rattle.ebc_cli.specs.Numbers.{identifier_of, width_of};
 ghost use Rattle.cli_base.specs.Words.{word_bytes};
 

@@ -26,7 +26,8 @@ fn stuck_reply(
     rule: RuleName,
     state: &Option<State>,
 ) -> Result<Reply, NoMemory>
-    ensures { IfOk result (λ r. r ≡ prints (Outcome.Refused place rule) (refused_line place rule ++ stuck_lines notes.now place state.now)) }
+    ensures { IfOk result (λ r.
+        r ≡ prints (Outcome.Refused place rule) (refused_line place rule ++ stuck_lines notes.now place state.now)) }
 {
     let mut text = refused_line(alloc, place, rule)?;
     if let Some(state) = state {

@@ -38,7 +38,8 @@ const ROM_NUMBER_LIMIT: u64 = 65535;
 
 /// Reads the files that a command names, and says what it asks for.
 pub fn read_command<F: Folder>(alloc: Global, command: Command, folder: &mut F) -> Result<Work, End>
-    ensures { ReadsWork F.contents F.asked F.read_faults F.write_faults folder.old folder.new result (work_for (Some command)) (output_of (Some command)) }
+    ensures { ReadsWork F.contents F.asked F.read_faults F.write_faults folder.old folder.new result (work_for (Some command))
+        (output_of (Some command)) }
 {
     match command {
         Command::CheckCode { code } => read_code_check(alloc, code, folder),
@@ -60,7 +61,8 @@ pub fn read_command<F: Folder>(alloc: Global, command: Command, folder: &mut F) 
 // The commands that run images, whose work keeps none of their names.
 fn read_run_command<F: Folder>(alloc: Global, command: Command, folder: &mut F) -> Result<Work, End>
     requires { IsRunCommand command }
-    ensures { ReadsWork F.contents F.asked F.read_faults F.write_faults folder.old folder.new result (work_for (Some command)) (output_of (Some command)) }
+    ensures { ReadsWork F.contents F.asked F.read_faults F.write_faults folder.old folder.new result (work_for (Some command))
+        (output_of (Some command)) }
 {
     let work = read_for_run(alloc, &command, folder);
     drop(command);
@@ -96,7 +98,8 @@ fn read_for_run<F: Folder>(alloc: Global, command: &Command, folder: &mut F) -> 
 // The commands on option ROMs.
 fn read_rom_command<F: Folder>(alloc: Global, command: Command, folder: &mut F) -> Result<Work, End>
     requires { IsRomCommand command }
-    ensures { ReadsWork F.contents F.asked F.read_faults F.write_faults folder.old folder.new result (work_for (Some command)) (output_of (Some command)) }
+    ensures { ReadsWork F.contents F.asked F.read_faults F.write_faults folder.old folder.new result (work_for (Some command))
+        (output_of (Some command)) }
 {
     match command {
         Command::WrapRom {

@@ -1,7 +1,8 @@
 //! Forms of instructions: what an opcode names, and what the first two bytes of each say.
 
 ghost use Rattle.std.specs.Prelude.{◌≡◌, ◌≤◌};
-ghost use Rattle.ebc_decode.specs.Reading.{has_left_index, is_direct_index, is_far_wrong, is_move_wrong, is_reserved, size1_at, size2_at, size_if};
+ghost use Rattle.ebc_decode.specs.Reading.{has_left_index, is_direct_index, is_far_wrong, is_move_wrong, is_reserved, size1_at, size2_at};
+ghost use Rattle.ebc_decode.specs.Reading.{size_if};
 
 use crate::bits::{bits_at, flag, operand_at};
 use ebc_insn::{ArithOp, CmpOp, Size};

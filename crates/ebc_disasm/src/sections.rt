@@ -109,7 +109,9 @@ fn append_item<'a>(
     requires within { place + length bytes.now < 2 ^ 23 }
     requires some { 0 < length bytes.now }
     requires coming { IsComing image.now place coming.relocs.now coming.labels.now }
-    ensures lines { IfOk result (λ p. string_bytes out.new ≡ string_bytes out.old ++ text_of (label_lines image.now place ++ (item_at image.now code place bytes.now).0 ∷ [])) }
+    ensures lines { IfOk result (λ p.
+        string_bytes out.new ≡
+        string_bytes out.old ++ text_of (label_lines image.now place ++ (item_at image.now code place bytes.now).0 ∷ [])) }
     ensures count { IfOk result (λ p. (p.0 ≡ (item_at image.now code place bytes.now).1) × (1 ≤ p.0) × (p.0 ≤ length bytes.now)) }
     ensures coming { IfOk result (λ p. IsComing image.now (place + 1) p.1.relocs.now p.1.labels.now) }
 {

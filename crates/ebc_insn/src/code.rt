@@ -2,7 +2,10 @@
 
 ghost use Rattle.std.specs.Prelude.{◌≡◌, ◌⊎◌, ◌<◌, ◌≤◌};
 ghost use Rattle.natural_index.specs.Index.{IsIndex, IsIndexSize, bit};
-ghost use Rattle.ebc_insn.specs.Spelling.{ExtraFits, FitsInt, IsOperand, MoveFits, RightFits, TargetFits, WellFormed, arith_number, cmp_number, code_of, condition, extra_field, field_size, has_extra, head, immediate_bits, index_field, int_field, move_opcode, operand, operands, optional_field, signed_opcode, size_number, target_bits, width_number};
+ghost use Rattle.ebc_insn.specs.Spelling.{ExtraFits, FitsInt, IsOperand, MoveFits, RightFits, TargetFits, WellFormed, arith_number};
+ghost use Rattle.ebc_insn.specs.Spelling.{cmp_number, code_of, condition, extra_field, field_size, has_extra, head, immediate_bits};
+ghost use Rattle.ebc_insn.specs.Spelling.{index_field, int_field, move_opcode, operand, operands, optional_field, signed_opcode};
+ghost use Rattle.ebc_insn.specs.Spelling.{size_number, target_bits, width_number};
 
 use crate::{ArithOp, CmpOp, Cond, Extra, Insn, Operand, Size};
 use natural_index::{Index, write16, write32, write64};

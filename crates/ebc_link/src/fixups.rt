@@ -6,7 +6,8 @@ ghost use Rattle.std.specs.Option.{option_map};
 ghost use Rattle.ebc_width.specs.Width.{wrap64};
 ghost use Rattle.ebc_object.specs.Objects.{width};
 ghost use Rattle.ebc_object.specs.declared.object.Fixup.{Fixup};
-ghost use Rattle.ebc_link.specs.Fixups.{bytes_for, counted, distance_to, holds_signed, in_section, is_address, is_near, is_whole, largest, place_of, put_at, value_of, with_fixups};
+ghost use Rattle.ebc_link.specs.Fixups.{bytes_for, counted, distance_to, holds_signed, in_section, is_address, is_near, is_whole, largest};
+ghost use Rattle.ebc_link.specs.Fixups.{place_of, put_at, value_of, with_fixups};
 ghost use Rattle.ebc_link.specs.Walks.{HasLowOffset, IsFixupOf, IsLow, IsWithin};
 
 use crate::layout::Home;

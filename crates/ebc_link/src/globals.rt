@@ -7,7 +7,8 @@ ghost use Rattle.ebc_base.specs.Steps.{only_if};
 ghost use Rattle.ebc_object.specs.declared.object.Symbol.{Symbol};
 ghost use Rattle.ebc_object.specs.Objects.{IsObject, most};
 ghost use Rattle.ebc_link.specs.Layout.{laid_with};
-ghost use Rattle.ebc_link.specs.Symbols.{Definition, definitions, definitions_in, first_again, first_in, is_definition, is_undefined, names_of, places_of, symbol_place, undefined_in};
+ghost use Rattle.ebc_link.specs.Symbols.{Definition, definitions, definitions_in, first_again, first_in, is_definition, is_undefined};
+ghost use Rattle.ebc_link.specs.Symbols.{names_of, places_of, symbol_place, undefined_in};
 ghost use Rattle.ebc_link.specs.Links.{Twice, Undefined, unless_some};
 ghost use Rattle.ebc_link.specs.Walks.{Checks, HasSmallOffset, IsLow, IsPaired, defined};
 
@@ -53,7 +54,8 @@ impl Globals {
         requires offset { HasSmallOffset symbol.now }
         requires room { length self.old.names < 2 ^ 30 }
         requires paired { IsPaired self.old }
-        ensures twice { Checks result (unless_some Twice (first_again (names_of (defined self.old)) (names_of (definitions_in home (symbol.now ∷ []))))) }
+        ensures twice { Checks result (unless_some Twice
+            (first_again (names_of (defined self.old)) (names_of (definitions_in home (symbol.now ∷ []))))) }
         ensures defined { OnOk result (defined self.new ≡ defined self.old ++ definitions_in home (symbol.now ∷ [])) }
         ensures paired { OnOk result (IsPaired self.new) }
         ensures few { OnOk result (length self.new.names ≤ length self.old.names + 1) }
@@ -75,7 +77,8 @@ impl Globals {
         requires few { length symbols.now ≤ most }
         requires room { length self.old.names ≤ 2 ^ 29 }
         requires paired { IsPaired self.old }
-        ensures twice { Checks result (unless_some Twice (first_again (names_of (defined self.old)) (names_of (definitions_in home symbols.now)))) }
+        ensures twice { Checks result (unless_some Twice
+            (first_again (names_of (defined self.old)) (names_of (definitions_in home symbols.now)))) }
         ensures defined { OnOk result (defined self.new ≡ defined self.old ++ definitions_in home symbols.now) }
         ensures paired { OnOk result (IsPaired self.new) }
         ensures few { OnOk result (length self.new.names ≤ length self.old.names + most) }
@@ -117,7 +120,8 @@ impl Globals {
     // The place of the definition of a name, if there is one.
     fn place(&self, name: &Name) -> Option<u32>
         requires { IsPaired self.now }
-        ensures { result ≡ option_map (λ (d : Definition). d.place) (find (λ (d : Definition). bytes_eq name.now d.name) (defined self.now)) }
+        ensures { result ≡ option_map (λ (d : Definition). d.place)
+            (find (λ (d : Definition). bytes_eq name.now d.name) (defined self.now)) }
     {
         self.place_numbered(self.names.number(name) as usize)
     }
@@ -146,7 +150,8 @@ impl Globals {
         requires low { IsLow home }
         requires offsets { All HasSmallOffset symbols.now }
         requires paired { IsPaired self.now }
-        ensures undefined { Checks result (unless_some Undefined (option_map (λ (s : Symbol). s.name) (find (is_undefined (defined self.now)) symbols.now))) }
+        ensures undefined { Checks result (unless_some Undefined
+            (option_map (λ (s : Symbol). s.name) (find (is_undefined (defined self.now)) symbols.now))) }
         ensures places { IfOk result (λ places. places ≡ map (symbol_place (defined self.now) home) symbols.now) }
     {
         let mut places = Vec::with_capacity(alloc, symbols.len())?;
@@ -174,7 +179,8 @@ impl Globals {
         requires homes { length homes.now ≡ length objects.now }
         requires low { All IsLow homes.now }
         requires paired { IsPaired self.now }
-        ensures undefined { Checks result (unless_some Undefined (first_in (undefined_in (defined self.now)) (laid_with objects.now homes.now))) }
+        ensures undefined { Checks result (unless_some Undefined
+            (first_in (undefined_in (defined self.now)) (laid_with objects.now homes.now))) }
         ensures places { IfOk result (λ places. places.items ≡ map (places_of (defined self.now)) (laid_with objects.now homes.now)) }
     {
         let mut places = Vec::with_capacity(alloc, objects.len())?;

@@ -28,7 +28,8 @@ impl<'a> Piece<'a> {
     /// Where the first fixup is whose bytes don't hold its distance.
     pub fn first_far(&self) -> Option<u32>
         requires { IsPiece self.now }
-        ensures { result ≡ option_map (place_of self.now.home) (find (λ (f : Fixup). not (is_near self.now.places.now self.now.home f)) self.now.object.now.fixups) }
+        ensures { result ≡ option_map (place_of self.now.home)
+            (find (λ (f : Fixup). not (is_near self.now.places.now self.now.home f)) self.now.object.now.fixups) }
     {
         first_far(self.object.fixups.as_slice(), self.places, self.home)
     }
@@ -67,7 +68,9 @@ impl<'a> Piece<'a> {
         requires piece { IsPiece self.now }
         requires base { base < 2 ^ 32 }
         requires section { (section ≡ 1) ⊎ (section ≡ 2) }
-        ensures { OnOk result (all.new.items ≡ all.old.items ++ with_fixups (bytes_for base self.now.places.now self.now.home) (section_bytes self.now.object.now.code self.now.object.now.contents section) (in_section section self.now.object.now.fixups)) }
+        ensures { OnOk result (all.new.items ≡
+            all.old.items ++ with_fixups (bytes_for base self.now.places.now self.now.home)
+            (section_bytes self.now.object.now.code self.now.object.now.contents section) (in_section section self.now.object.now.fixups)) }
     {
         let start = all.len();
         all.extend_from_slice(self.bytes(section))?;

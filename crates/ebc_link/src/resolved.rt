@@ -144,7 +144,8 @@ impl<'a> Resolved<'a> {
         requires section { (section ≡ 1) ⊎ (section ≡ 2) }
         requires base { base < 2 ^ 32 }
         requires packed { ArePacked section (filled_section section base (defined_in self.now)) start (laid_in self.now) }
-        ensures { IfOk result (λ bytes. bytes.items ≡ section_from section (filled_section section base (defined_in self.now)) start (laid_in self.now)) }
+        ensures { IfOk result (λ bytes.
+            bytes.items ≡ section_from section (filled_section section base (defined_in self.now)) start (laid_in self.now)) }
     {
         let mut bytes = Vec::with_capacity(alloc, end.saturating_sub(start) as usize)?;
         for number in 0..self.objects.len() {
@@ -172,7 +173,8 @@ impl<'a> Resolved<'a> {
         requires bounds { IsBounds self.now.objects.now bounds }
         requires size { size ≡ (linked_image plan.now (defined_in self.now) (laid_in self.now) bounds.contents_start entry).size }
         requires relocs { relocs.items ≡ relocs_of (laid_in self.now) }
-        ensures image { IfOk result (λ image. image ≡ linked_image plan.now (defined_in self.now) (laid_in self.now) bounds.contents_start entry) }
+        ensures image { IfOk result (λ image.
+            image ≡ linked_image plan.now (defined_in self.now) (laid_in self.now) bounds.contents_start entry) }
         ensures bytes { IfOk result AreBytes }
     {
         let text = self.bytes(alloc, 1, CODE_START, bounds.code_end, plan.base)?;

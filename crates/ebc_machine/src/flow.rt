@@ -2,7 +2,8 @@
 
 ghost use Rattle.std.specs.Prelude.{◌≡◌, ◌<◌};
 ghost use Rattle.ebc_width.specs.Width.{IsWidth};
-ghost use Rattle.ebc_machine.specs.Flow.{is_taken, aligned, target_number, target_at, called, jump_row, jump8_row, call_row, call_native_row, return_row, break_row};
+ghost use Rattle.ebc_machine.specs.Flow.{is_taken, aligned, target_number, target_at, called, jump_row, jump8_row, call_row};
+ghost use Rattle.ebc_machine.specs.Flow.{call_native_row, return_row, break_row};
 ghost use Rattle.ebc_machine.specs.States.{concrete_of, Does, Ends};
 
 use crate::access::{holds, store};

@@ -3,7 +3,8 @@
 ghost use Rattle.std.specs.Prelude.{◌≡◌, ◌<◌};
 ghost use Rattle.ebc_width.specs.Width.{IsWidth};
 ghost use Rattle.natural_index.specs.Index.{IsIndex, IsIndexSize};
-ghost use Rattle.ebc_machine.specs.Moves.{move_row, move_signed_row, move_imm_row, move_imm_natural_row, move_relative_row, load_special_row, store_special_row};
+ghost use Rattle.ebc_machine.specs.Moves.{move_row, move_signed_row, move_imm_row, move_imm_natural_row, move_relative_row};
+ghost use Rattle.ebc_machine.specs.Moves.{load_special_row, store_special_row};
 ghost use Rattle.ebc_machine.specs.States.{concrete_of, Ends};
 
 use crate::operand::{Side, low_bytes};

@@ -5,7 +5,8 @@ ghost use Rattle.ebc_width.specs.Width.{IsWidth, cut_at};
 ghost use Rattle.natural_index.specs.Index.{IsIndex, IsIndexSize};
 ghost use Rattle.ebc_insn.specs.Spelling.{ExtraFits, RightFits, TargetFits};
 ghost use Rattle.ebc_width.specs.Bytes.{IsAccess};
-ghost use Rattle.ebc_machine.specs.Operands.{size_bytes, low_bytes, index_offset, optional_offset, extra_offset, form_bytes, plain, with_index, with_extra, loaded_at, value, written};
+ghost use Rattle.ebc_machine.specs.Operands.{size_bytes, low_bytes, index_offset, optional_offset, extra_offset, form_bytes, plain};
+ghost use Rattle.ebc_machine.specs.Operands.{with_index, with_extra, loaded_at, value, written};
 ghost use Rattle.ebc_machine.specs.States.{concrete_of, Does};
 
 use crate::Machine;

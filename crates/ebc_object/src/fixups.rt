@@ -106,7 +106,8 @@ pub fn fixups_at(
 ) -> Result<Vec<Fixup>, ObjectEnd>
     requires count { count ≤ most }
     requires start { start ≤ length file.now }
-    ensures fixups { GivesBy (λ fixups. fixups.items) result (fixups_at count file.now sections.now.code.now sections.now.contents.now symbols [] start) }
+    ensures fixups { GivesBy (λ fixups. fixups.items) result
+        (fixups_at count file.now sections.now.code.now sections.now.contents.now symbols [] start) }
     ensures within { OnOk result (start + fixup_size * count ≤ length file.now) }
 {
     let mut fixups = Vec::new(alloc);

@@ -71,7 +71,8 @@ fn store_slots<const W: usize>(mem: &mut ObjMem<W>, first: u64, kinds: &[SlotKin
     requires width { IsWidth W }
     requires each { length kinds.now ≡ length args.now }
     requires mapped { slots_mapped W (ranges mem.old) first kinds.now ≡ true }
-    ensures stored { (s : Concrete) → with_slots W first (params_of kinds.now) args.now (with_memory s mem.old) ≡ Some (with_memory s mem.new) }
+    ensures stored { (s : Concrete) → with_slots W first (params_of kinds.now) args.now (with_memory s mem.old) ≡
+        Some (with_memory s mem.new) }
     ensures objects { KeepsObjects mem.old mem.new }
 {
     let mut addr = first;
@@ -93,7 +94,8 @@ pub(crate) fn store_cells<const W: usize>(
     requires width { IsWidth W }
     requires each { length kinds.now ≡ length args.now }
     requires mapped { cells_mapped W (ranges mem.old) top kinds.now ≡ true }
-    ensures stored { (s : Concrete) → s.gate ≡ gate → with_cells W top (params_of kinds.now) args.now (with_memory s mem.old) ≡ Some (with_memory s mem.new) }
+    ensures stored { (s : Concrete) → s.gate ≡ gate →
+        with_cells W top (params_of kinds.now) args.now (with_memory s mem.old) ≡ Some (with_memory s mem.new) }
     ensures objects { KeepsObjects mem.old mem.new }
 {
     store(mem, cut::<W>(top), 8, gate);

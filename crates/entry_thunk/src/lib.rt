@@ -22,7 +22,8 @@
 
 mod cells;
 
-ghost use Rattle.std.specs.Prelude.{◌≡◌, ℕ, ◌+◌, ◌<◌, ◌≤◌, ◌^◌, ◌↔◌, [], ◌∷◌, true, false, length, drop, slice_get, slice_index, replicate, Some, None, IsNone, IfSome, IfNone};
+ghost use Rattle.std.specs.Prelude.{◌≡◌, ℕ, ◌+◌, ◌<◌, ◌≤◌, ◌^◌, ◌↔◌, [], ◌∷◌, true, false, length, drop, slice_get, slice_index, replicate};
+ghost use Rattle.std.specs.Prelude.{Some, None, IsNone, IfSome, IfNone};
 ghost use Rattle.ebc_width.specs.Width.{IsWidth};
 ghost use Rattle.object_memory.specs.Memory.{Memory};
 ghost use Rattle.frame_stack.specs.declared.Frame.{Frame};
@@ -89,8 +90,10 @@ pub fn enter<const W: usize>(
     requires few { length kinds.now ≤ 16 }
     requires func { func < 2 ^ 31 }
     ensures deep { (result ≡ EnterEnd.TooDeep) ↔ (length frames.old ≡ frame_limit) }
-    ensures fault { (result ≡ EnterEnd.StackFault) ↔ ((length frames.old < frame_limit) × (inside W (concrete_of m.old mem.old) target (params_of kinds.now) args.now ≡ None)) }
-    ensures inside { OnDone result (inside W (concrete_of m.old mem.old) target (params_of kinds.now) args.now ≡ Some (concrete_of m.new mem.new)) }
+    ensures fault { (result ≡ EnterEnd.StackFault) ↔
+        ((length frames.old < frame_limit) × (inside W (concrete_of m.old mem.old) target (params_of kinds.now) args.now ≡ None)) }
+    ensures inside { OnDone result (inside W (concrete_of m.old mem.old) target (params_of kinds.now) args.now ≡
+        Some (concrete_of m.new mem.new)) }
     ensures frame { OnDone result (frames.new ≡ frame_of m.old func ∷ frames.old) }
     ensures saved { saved_of (frame_of m.old func) ≡ frame_for false (concrete_of m.old mem.old) func }
     ensures objects { KeepsObjects mem.old mem.new }
@@ -117,8 +120,10 @@ pub fn notify<const W: usize>(
     requires few { length kinds.now ≤ 16 }
     requires func { func < 2 ^ 31 }
     ensures deep { (result ≡ EnterEnd.TooDeep) ↔ (length frames.old ≡ frame_limit) }
-    ensures fault { (result ≡ EnterEnd.StackFault) ↔ ((length frames.old < frame_limit) × (inside W (concrete_of m.old mem.old) target (params_of kinds.now) args.now ≡ None)) }
-    ensures inside { OnDone result (inside W (concrete_of m.old mem.old) target (params_of kinds.now) args.now ≡ Some (concrete_of m.new mem.new)) }
+    ensures fault { (result ≡ EnterEnd.StackFault) ↔
+        ((length frames.old < frame_limit) × (inside W (concrete_of m.old mem.old) target (params_of kinds.now) args.now ≡ None)) }
+    ensures inside { OnDone result (inside W (concrete_of m.old mem.old) target (params_of kinds.now) args.now ≡
+        Some (concrete_of m.new mem.new)) }
     ensures frame { OnDone result (frames.new ≡ frame_of m.old (func + 2 ^ 31) ∷ frames.old) }
     ensures saved { saved_of (frame_of m.old (func + 2 ^ 31)) ≡ frame_for true (concrete_of m.old mem.old) func }
     ensures objects { KeepsObjects mem.old mem.new }
@@ -143,8 +148,10 @@ fn enter_by<const W: usize>(
     requires each { length kinds.now ≡ length args.now }
     requires few { length kinds.now ≤ 16 }
     ensures deep { (result ≡ EnterEnd.TooDeep) ↔ (length frames.old ≡ frame_limit) }
-    ensures fault { (result ≡ EnterEnd.StackFault) ↔ ((length frames.old < frame_limit) × (inside W (concrete_of m.old mem.old) target (params_of kinds.now) args.now ≡ None)) }
-    ensures inside { OnDone result (inside W (concrete_of m.old mem.old) target (params_of kinds.now) args.now ≡ Some (concrete_of m.new mem.new)) }
+    ensures fault { (result ≡ EnterEnd.StackFault) ↔
+        ((length frames.old < frame_limit) × (inside W (concrete_of m.old mem.old) target (params_of kinds.now) args.now ≡ None)) }
+    ensures inside { OnDone result (inside W (concrete_of m.old mem.old) target (params_of kinds.now) args.now ≡
+        Some (concrete_of m.new mem.new)) }
     ensures frame { OnDone result (frames.new ≡ frame_of m.old number ∷ frames.old) }
     ensures objects { KeepsObjects mem.old mem.new }
     ensures machine { OnRefused result (m.new ≡ m.old) }
@@ -201,7 +208,8 @@ fn registers_left(frame: &Frame, r7: u64) -> [u64; 8]
 pub fn leave<const W: usize>(m: &mut Machine<W>, frames: &mut FrameStack) -> Option<LeftEntry>
     ensures none { IsNone result ↔ (frames.old ≡ []) }
     ensures frames { frames.new ≡ drop 1 frames.old }
-    ensures machine { (f : Frame) (n : Memory) → slice_get frames.old 0 ≡ Some f → concrete_of m.new n ≡ once_left (concrete_of m.old n) (saved_of f) }
+    ensures machine { (f : Frame) (n : Memory) → slice_get frames.old 0 ≡ Some f →
+        concrete_of m.new n ≡ once_left (concrete_of m.old n) (saved_of f) }
     ensures func { (f : Frame) → slice_get frames.old 0 ≡ Some f → IfSome result (λ e. e.func ≡ (saved_of f).func) }
     ensures r7 { IfSome result (λ e. e.r7 ≡ slice_index m.old.regs 7) }
     ensures notified { (f : Frame) → slice_get frames.old 0 ≡ Some f → IfSome result (λ e. e.notified ≡ (saved_of f).notified) }

@@ -90,7 +90,8 @@ fn missing_lines(answer: &Answer, number: u8) -> Result<Told, NoMemory>
 
 // What is said of a file that can't be read.
 fn unread_lines(answer: &Answer) -> Result<Told, NoMemory>
-    ensures begins { IfOk result (λ told. BeginsWith (shown (error_head (asked_or answer.now.asked.now (name_of answer.now.program)))) told) }
+    ensures begins { IfOk result (λ told.
+        BeginsWith (shown (error_head (asked_or answer.now.asked.now (name_of answer.now.program)))) told) }
     ensures says { IfOk result (λ told. told ≢ []) }
 {
     let name = asked_or(answer.asked, answer.program.name());
@@ -179,7 +180,8 @@ fn lines_of(answer: &Answer, folder: &mut MemFolder) -> Result<Told, NoMemory>
     ensures done { answer.now.outcome ≡ Outcome.Done → answer.now.amiss ≡ false → IfOk result (λ told. told ≡ []) }
     ensures says { answer.now.outcome ≢ Outcome.Done → IfOk result (λ told. told ≢ []) }
     ensures agrees { IfOk result (λ told. BeginsWith
-        (shown (head_of answer.now.program (word_bytes answer.now.words.now) answer.now.asked.now folder.old.files answer.now.outcome)) told) }
+        (shown (head_of answer.now.program (word_bytes answer.now.words.now) answer.now.asked.now folder.old.files answer.now.outcome))
+        told) }
 {
     match answer.outcome {
         Outcome::Done => done_lines(answer, folder),

@@ -1,7 +1,8 @@
 //! The faults of the files but images that a command reads: their numbers, and their names as they are printed.
 ghost use Rattle.std.specs.Prelude.{◌≡◌};
 ghost use Rattle.file_inputs.specs.Faults.{asm_fault_text, toml_fault_number, toml_fault_text, key_path};
-ghost use Rattle.file_inputs.specs.Faults.{object_fault_number, object_fault_text, rom_fault_number, rom_fault_text, take_fault_number, take_fault_text};
+ghost use Rattle.file_inputs.specs.Faults.{object_fault_number, object_fault_text, rom_fault_number, rom_fault_text, take_fault_number};
+ghost use Rattle.file_inputs.specs.Faults.{take_fault_text};
 
 use ebc_asm::AsmFault;
 use ebc_object::ObjectFault;

@@ -17,7 +17,8 @@
 //! `slot`, `set_slot`, `set_mark` and `mark` need a frame (`frame`), and a slot from 0 to 15 (`slot`).
 #![tactic(auto)]
 
-ghost use Rattle.std.specs.Prelude.{◌≡◌, ℕ, ◌+◌, ◌*◌, ◌<◌, ◌≤◌, ◌↔◌, [], ◌∷◌, length, slice_get, slice_index, false, IfOk, IfSome, IfNone, Some};
+ghost use Rattle.std.specs.Prelude.{◌≡◌, ℕ, ◌+◌, ◌*◌, ◌<◌, ◌≤◌, ◌↔◌, [], ◌∷◌, length, slice_get, slice_index, false, IfOk, IfSome, IfNone};
+ghost use Rattle.std.specs.Prelude.{Some};
 ghost use Rattle.std.specs.Bool.{OnTrue, OnFalse};
 ghost use Rattle.ebc_width.specs.Bytes.{little_endian};
 ghost use Rattle.frame_stack.specs.declared.Frame.{Frame};

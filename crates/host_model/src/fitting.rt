@@ -1,6 +1,7 @@
 //! Whether a value that a script writes fits a type.
 ghost use Rattle.std.specs.Prelude.{◌≡◌, ◌+◌, nat_le};
-ghost use Rattle.host_model.specs.ScriptValues.{fits, fits_any, fits_each, fits_pointer, fits_range, has_instances, is_any, is_entry, is_handle, is_made, is_method, is_status};
+ghost use Rattle.host_model.specs.ScriptValues.{fits, fits_any, fits_each, fits_pointer, fits_range, has_instances, is_any, is_entry};
+ghost use Rattle.host_model.specs.ScriptValues.{is_handle, is_made, is_method, is_status};
 ghost use Rattle.note_types.specs.Types.{is_start};
 
 use crate::object::TypedObject;

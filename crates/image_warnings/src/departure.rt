@@ -7,7 +7,9 @@ ghost use Rattle.note_types.specs.BelowTests.{is_any};
 ghost use Rattle.rules_base.specs.Values.{form_access, operand_value};
 ghost use Rattle.rules_data.specs.Arithmetic.{is_unary};
 ghost use Rattle.image_warnings.specs.Fields.{is_foreign, loaded_field};
-ghost use Rattle.image_warnings.specs.Departures.{breaks, compares_negative, compares_unsigned, departs, divides_signed, divides_smallest, is_r7, is_register, may_be, may_reach, pops_sum, reads_r7, shifts, shifts_past, takes_all, type_may_be, type_may_reach, units_may_reach};
+ghost use Rattle.image_warnings.specs.Departures.{breaks, compares_negative, compares_unsigned, departs, divides_signed, divides_smallest};
+ghost use Rattle.image_warnings.specs.Departures.{is_r7, is_register, may_be, may_reach, pops_sum, reads_r7, shifts, shifts_past};
+ghost use Rattle.image_warnings.specs.Departures.{takes_all, type_may_be, type_may_reach, units_may_reach};
 
 use crate::field::{is_foreign, loaded_field};
 use crate::warning::Kind;

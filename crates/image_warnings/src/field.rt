@@ -2,7 +2,9 @@
 
 ghost use Rattle.std.specs.Prelude.{◌≡◌, ◌<◌, ◌+ℤ◌, OnOk};
 ghost use Rattle.ebc_insn.specs.Spelling.{IsOperand, WellFormed};
-ghost use Rattle.image_warnings.specs.Fields.{field_at, field_past, gives, hands_out, has, has_leaver, has_some, is_foreign, is_handed_out, is_leaver, is_number, is_same, leaves, loaded_field, operand_field, points_to, stored_field, with_field};
+ghost use Rattle.image_warnings.specs.Fields.{field_at, field_past, gives, hands_out, has, has_leaver, has_some, is_foreign, is_handed_out};
+ghost use Rattle.image_warnings.specs.Fields.{is_leaver, is_number, is_same, leaves, loaded_field, operand_field, points_to, stored_field};
+ghost use Rattle.image_warnings.specs.Fields.{with_field};
 
 use ebc_base::NoMemory;
 use ebc_insn::{Insn, Operand, Size};

@@ -64,7 +64,8 @@ impl<const W: usize> Host<W> {
         requires notes { IsOf W notes.now self.now.places }
         requires stack { HasStack W notes.now (placement_of self.now.places) mem.now }
         requires within { in_stack W notes.now (placement_of self.now.places) cell.now x ≡ true }
-        ensures { result ≡ reading_of W notes.now (placement_of self.now.places) self.now.made.items (sort_of_cell cell.now) (little_endian (byte_at mem.now) x (cell_size W cell.now)) }
+        ensures { result ≡ reading_of W notes.now (placement_of self.now.places) self.now.made.items (sort_of_cell cell.now)
+            (little_endian (byte_at mem.now) x (cell_size W cell.now)) }
     {
         let Some(number) = mem.load(x, cell_bytes::<W>(cell)) else {
             unreachable!();
@@ -78,7 +79,8 @@ impl<const W: usize> Host<W> {
         requires width { IsWidth W }
         requires notes { IsOf W notes.now self.now.places }
         requires stack { HasStack W notes.now (placement_of self.now.places) mem.now }
-        ensures { result ≡ argument_read W notes.now (placement_of self.now.places) self.now.made.items (byte_at mem.now) (role_of want.now) x }
+        ensures { result ≡ argument_read W notes.now (placement_of self.now.places) self.now.made.items (byte_at mem.now) (role_of want.now)
+            x }
     {
         match *want {
             Want::Any => given(self.read(notes, Sort::Anything, x)),
@@ -98,7 +100,8 @@ impl<const W: usize> Host<W> {
     fn out_argument(&self, notes: &Notes, cell: &Cell, x: u64) -> Seen
         requires width { IsWidth W }
         requires notes { IsOf W notes.now self.now.places }
-        ensures { (byte : ℕ → ℕ) → result ≡ argument_read W notes.now (placement_of self.now.places) self.now.made.items byte (OutCell cell.now) x }
+        ensures { (byte : ℕ → ℕ) → result ≡
+            argument_read W notes.now (placement_of self.now.places) self.now.made.items byte (OutCell cell.now) x }
     {
         if self.in_stack(notes, cell, x) {
             given(Value::Out)
@@ -113,7 +116,8 @@ impl<const W: usize> Host<W> {
         requires width { IsWidth W }
         requires notes { IsOf W notes.now self.now.places }
         requires stack { HasStack W notes.now (placement_of self.now.places) mem.now }
-        ensures { result ≡ argument_read W notes.now (placement_of self.now.places) self.now.made.items (byte_at mem.now) (InoutCell cell.now) x }
+        ensures { result ≡ argument_read W notes.now (placement_of self.now.places) self.now.made.items (byte_at mem.now)
+            (InoutCell cell.now) x }
     {
         if self.in_stack(notes, cell, x) {
             Seen {
@@ -138,7 +142,8 @@ impl<const W: usize> Host<W> {
         requires stack { HasStack W notes.now (placement_of self.now.places) mem.now }
         requires frame { 0 < length frames.now }
         requires few { length params.now ≤ 16 }
-        ensures { (f : Frame) → slice_get frames.now 0 ≡ Some f → result ≡ arguments_read W notes.now (placement_of self.now.places) self.now.made.items (byte_at mem.now) params.now f.slots }
+        ensures { (f : Frame) → slice_get frames.now 0 ≡ Some f →
+            result ≡ arguments_read W notes.now (placement_of self.now.places) self.now.made.items (byte_at mem.now) params.now f.slots }
     {
         // The region tells that each frame has 16 slots.
         let _ = frames.region();
@@ -178,8 +183,12 @@ impl<const W: usize> Host<W> {
         requires notes { IsOf W notes.now self.now.places }
         requires stack { HasStack W notes.now (placement_of self.now.places) mem.now }
         requires frame { 0 < length frames.old }
-        ensures asks { (world : World) (r : RunState) → world.notes ≡ notes.now → register r.machine 0 ≡ r0 → r.machine.objects ≡ ranges mem.now → r.machine.byte ≡ byte_at mem.now → objects_at world r ≡ self.now.made.items → asking_of result ≡ asking_at W world (placement_of self.now.places) r place target }
-        ensures slots { (world : World) (r : RunState) → world.notes ≡ notes.now → register r.machine 0 ≡ r0 → r.machine.objects ≡ ranges mem.now → r.machine.byte ≡ byte_at mem.now → frames.new ≡ with_arguments (slots_asked W world r (Asked place target)) frames.old }
+        ensures asks { (world : World) (r : RunState) → world.notes ≡ notes.now → register r.machine 0 ≡ r0 →
+            r.machine.objects ≡ ranges mem.now → r.machine.byte ≡ byte_at mem.now → objects_at world r ≡ self.now.made.items →
+            asking_of result ≡ asking_at W world (placement_of self.now.places) r place target }
+        ensures slots { (world : World) (r : RunState) → world.notes ≡ notes.now → register r.machine 0 ≡ r0 →
+            r.machine.objects ≡ ranges mem.now → r.machine.byte ≡ byte_at mem.now →
+            frames.new ≡ with_arguments (slots_asked W world r (Asked place target)) frames.old }
         ensures len { length frames.new ≡ length frames.old }
     {
         let Some(number) = site_of(notes, place) else {

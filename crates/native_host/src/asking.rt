@@ -4,7 +4,8 @@ ghost use Rattle.std.specs.List.{find};
 ghost use Rattle.std.specs.List.Sorted.{IsStrictlyIncreasing};
 ghost use Rattle.std.specs.Option.{option_map, option_or};
 ghost use Rattle.note_types.specs.Records.{IsNotes};
-ghost use Rattle.host_model.specs.HostPlans.{argument_refused, asked_args, asked_signature, asking_refused, call_event, entry_refused, site_of};
+ghost use Rattle.host_model.specs.HostPlans.{argument_refused, asked_args, asked_signature, asking_refused, call_event, entry_refused};
+ghost use Rattle.host_model.specs.HostPlans.{site_of};
 ghost use Rattle.note_types.specs.declared.notes.Site.{Site};
 ghost use Rattle.native_host.specs.Askings.{asking_of};
 ghost use Rattle.native_host.specs.Steps.{end_step};
@@ -173,7 +174,8 @@ pub(crate) fn asking_refused(place: u32, asking: &Asking) -> Option<Ending>
 
 /// How a run ends at a call that is asked for at a place, where so many calls of the script were accepted.
 pub(crate) fn refused(script: &Script, entry: u32, place: u32, asking: &Asking) -> Option<Ending>
-    ensures refused { result ≡ option_or (asking_refused place (asking_of asking.now)) (entry_refused (slice_get script.now.call entry) (asked_signature (asking_of asking.now)) (asked_args (asking_of asking.now))) }
+    ensures refused { result ≡ option_or (asking_refused place (asking_of asking.now))
+        (entry_refused (slice_get script.now.call entry) (asked_signature (asking_of asking.now)) (asked_args (asking_of asking.now))) }
     ensures ends { IfSome result (λ e. IsSome (end_step e)) }
 {
     match asking_refused(place, asking) {

@@ -160,9 +160,15 @@ impl<const W: usize> Host<W> {
         requires notes { IsOf W notes.now self.now.places }
         requires stack { HasStack W notes.now (placement_of self.now.places) mem.now }
         requires frame { 0 < length frames.old }
-        ensures step { (world : World) (r : RunState) → world.notes ≡ notes.now → register r.machine 0 ≡ r0 → r.machine.objects ≡ ranges mem.now → r.machine.byte ≡ byte_at mem.now → objects_at world r ≡ self.now.made.items → result ≡ bound_step place (asking_at W world (placement_of self.now.places) r place target) }
-        ensures called { (world : World) (r : RunState) → world.notes ≡ notes.now → register r.machine 0 ≡ r0 → r.machine.objects ≡ ranges mem.now → r.machine.byte ≡ byte_at mem.now → objects_at world r ≡ self.now.made.items → OnCalled result (λ signature args. length args ≡ length (signature_params notes.now signature)) }
-        ensures slots { (world : World) (r : RunState) → world.notes ≡ notes.now → register r.machine 0 ≡ r0 → r.machine.objects ≡ ranges mem.now → r.machine.byte ≡ byte_at mem.now → frames.new ≡ with_arguments (slots_asked W world r (Asked place target)) frames.old }
+        ensures step { (world : World) (r : RunState) → world.notes ≡ notes.now → register r.machine 0 ≡ r0 →
+            r.machine.objects ≡ ranges mem.now → r.machine.byte ≡ byte_at mem.now → objects_at world r ≡ self.now.made.items →
+            result ≡ bound_step place (asking_at W world (placement_of self.now.places) r place target) }
+        ensures called { (world : World) (r : RunState) → world.notes ≡ notes.now → register r.machine 0 ≡ r0 →
+            r.machine.objects ≡ ranges mem.now → r.machine.byte ≡ byte_at mem.now → objects_at world r ≡ self.now.made.items →
+            OnCalled result (λ signature args. length args ≡ length (signature_params notes.now signature)) }
+        ensures slots { (world : World) (r : RunState) → world.notes ≡ notes.now → register r.machine 0 ≡ r0 →
+            r.machine.objects ≡ ranges mem.now → r.machine.byte ≡ byte_at mem.now →
+            frames.new ≡ with_arguments (slots_asked W world r (Asked place target)) frames.old }
         ensures hosts { (call : NativeCall ℕ) → with_call call (map saved_of frames.new) ≡ with_call call (map saved_of frames.old) }
         ensures len { length frames.new ≡ length frames.old }
     {
@@ -176,7 +182,8 @@ impl<const W: usize> Host<W> {
     #[tactic(auto, unfolding(pair_model::specs::Rules::provider_refused))]
     pub fn provider_refused(&self, notes: &Notes, function: u32, args: &Args) -> Option<Ending>
         requires read { IsNotes notes.now }
-        ensures refused { (world : World) (at : ScriptPlace) → world.notes ≡ notes.now → self.now.thunks ≡ min at.thunks (2 ^ 64 - 1) → made_objects world.notes world.script at.entries ≡ self.now.made.items → result ≡ provider_refused world at function args.now }
+        ensures refused { (world : World) (at : ScriptPlace) → world.notes ≡ notes.now → self.now.thunks ≡ min at.thunks (2 ^ 64 - 1) →
+            made_objects world.notes world.script at.entries ≡ self.now.made.items → result ≡ provider_refused world at function args.now }
     {
         if self.thunks < notes.thunk.len() as u64 {
             return Some(Ending::Mismatch(Reason::Bind { function }));
@@ -191,7 +198,8 @@ impl<const W: usize> Host<W> {
     // How a pair ends where a value doesn't fit the result of a signature of the caller, whose host this is.
     #[tactic(auto, unfolding(pair_model::specs::Rules::reply_refused))]
     fn reply_refused(&self, kind: &Option<Ty>, value: &Value) -> Option<Ending>
-        ensures { (world : World) (at : ScriptPlace) → at.entries ≡ self.now.entries → made_objects world.notes world.script at.entries ≡ self.now.made.items → result ≡ reply_refused world at kind.now value.now }
+        ensures { (world : World) (at : ScriptPlace) → at.entries ≡ self.now.entries →
+            made_objects world.notes world.script at.entries ≡ self.now.made.items → result ≡ reply_refused world at kind.now value.now }
     {
         let Some(ty) = kind else {
             return None;
@@ -207,7 +215,8 @@ impl<const W: usize> Host<W> {
     // The number of a value that the provider returned, 0 where the signature has no result.
     fn bound_number(&self, kind: &Option<Ty>, value: &Value) -> u64
         requires { IsWidth W }
-        ensures { (world : World) (r : RunState) → IsOf W world.notes self.now.places → objects_at world r ≡ self.now.made.items → result ≡ bound_number W world (placement_of self.now.places) r kind.now value.now }
+        ensures { (world : World) (r : RunState) → IsOf W world.notes self.now.places → objects_at world r ≡ self.now.made.items →
+            result ≡ bound_number W world (placement_of self.now.places) r kind.now value.now }
     {
         match kind {
             Some(_) => self.number_of(value),
@@ -232,8 +241,11 @@ impl<const W: usize> Host<W> {
         requires width { IsWidth W }
         requires notes { IsOf W notes.now self.now.places }
         requires frame { 0 < length frames.old }
-        ensures answer { (world : World) (r : RunState) → world.notes ≡ notes.now → r.script.entries ≡ self.now.entries → objects_at world r ≡ self.now.made.items → result ≡ bound_answer W world (placement_of self.now.places) r (signature_result notes.now signature) value.now }
-        ensures hosts { OnOk result ((call : NativeCall ℕ) → map saved_of frames.new ≡ with_call NoCall (with_call call (map saved_of frames.old))) }
+        ensures answer { (world : World) (r : RunState) → world.notes ≡ notes.now → r.script.entries ≡ self.now.entries →
+            objects_at world r ≡ self.now.made.items →
+            result ≡ bound_answer W world (placement_of self.now.places) r (signature_result notes.now signature) value.now }
+        ensures hosts { OnOk result ((call : NativeCall ℕ) →
+            map saved_of frames.new ≡ with_call NoCall (with_call call (map saved_of frames.old))) }
         ensures same { OnErr result (frames.new ≡ frames.old) }
         ensures len { length frames.new ≡ length frames.old }
     {

@@ -47,13 +47,24 @@ impl<const W: usize> Host<W> {
         requires memory { IsMemoryOf W (host_world notes.now script.now self.old) (placement_of self.old.places) self.old.entries mem.old }
         requires room { HasRoom self.old 1 }
         requires frame { 0 < length frames.old }
-        ensures step { (r : RunState) → register r.machine 0 ≡ r0 → Some result ≡ step_of (written_number W notes.now (placement_of self.old.places) self.old.made.items) (asked_plan W (host_world notes.now script.now self.old) (placement_of self.old.places) (asked self.old mem.old frames.old place target r) place target) }
-        ensures after { (r : RunState) → register r.machine 0 ≡ r0 → performed W (host_world notes.now script.now self.old) (placement_of self.old.places) (asked self.old mem.old frames.old place target r) (asked_plan W (host_world notes.now script.now self.old) (placement_of self.old.places) (asked self.old mem.old frames.old place target r) place target) ≡ taken false W (host_world notes.now script.now self.old) (placement_of self.old.places) (settled self.new mem.new frames.new place target result r) result }
+        ensures step { (r : RunState) → register r.machine 0 ≡ r0 →
+            Some result ≡ step_of (written_number W notes.now (placement_of self.old.places) self.old.made.items)
+            (asked_plan W (host_world notes.now script.now self.old) (placement_of self.old.places)
+            (asked self.old mem.old frames.old place target r) place target) }
+        ensures after { (r : RunState) → register r.machine 0 ≡ r0 →
+            performed W (host_world notes.now script.now self.old) (placement_of self.old.places)
+            (asked self.old mem.old frames.old place target r)
+            (asked_plan W (host_world notes.now script.now self.old) (placement_of self.old.places)
+            (asked self.old mem.old frames.old place target r) place target) ≡
+            taken false W (host_world notes.now script.now self.old) (placement_of self.old.places)
+            (settled self.new mem.new frames.new place target result r) result }
         ensures settled { IsSettled result }
         ensures serving { IsServing W notes.now script.now self.new }
         ensures memory { IsMemoryOf W (host_world notes.now script.now self.new) (placement_of self.new.places) self.new.entries mem.new }
         ensures same { OnEnd result (mem.new ≡ mem.old) }
-        ensures frames { (world : World) (r : RunState) → world.notes ≡ notes.now → register r.machine 0 ≡ r0 → r.machine.objects ≡ ranges mem.old → r.machine.byte ≡ byte_at mem.old → OnEnd result (frames.new ≡ with_arguments (slots_asked W world r (Asked place target)) frames.old) }
+        ensures frames { (world : World) (r : RunState) → world.notes ≡ notes.now → register r.machine 0 ≡ r0 →
+            r.machine.objects ≡ ranges mem.old → r.machine.byte ≡ byte_at mem.old →
+            OnEnd result (frames.new ≡ with_arguments (slots_asked W world r (Asked place target)) frames.old) }
         ensures kept { self.new ≡ record self.old { made = self.new.made; entries = self.new.entries; trace = self.new.trace } }
         ensures len { length frames.new ≡ length frames.old }
         ensures room { (n : ℕ) → HasRoom self.old (n + 1) → HasRoom self.new n }
@@ -83,7 +94,9 @@ impl<const W: usize> Host<W> {
         requires memory { IsMemoryOf W (host_world notes.now script.now self.old) (placement_of self.old.places) self.old.entries mem.old }
         requires frame { 0 < length frames.old }
         requires left { IsSome (slice_get script.now.call self.old.entries) }
-        ensures after { (s : Concrete) → with_made W notes.now (placement_of self.old.places) (made_objects notes.now script.now self.old.entries) (objects_made_by (slice_get script.now.call self.old.entries)) [] (with_memory s mem.old) ≡ with_memory s mem.new }
+        ensures after { (s : Concrete) → with_made W notes.now (placement_of self.old.places)
+            (made_objects notes.now script.now self.old.entries) (objects_made_by (slice_get script.now.call self.old.entries)) []
+            (with_memory s mem.old) ≡ with_memory s mem.new }
         ensures mark { frames.new ≡ with_mark self.old.entries 0 (entry_count script.now self.old.entries) frames.old }
         ensures len { length frames.new ≡ length frames.old }
         ensures serving { IsServing W notes.now script.now self.new }

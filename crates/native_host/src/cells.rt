@@ -74,8 +74,10 @@ impl<const W: usize> Host<W> {
     ) -> Option<u64>
         requires width { IsWidth W }
         requires notes { IsOf W notes.now self.now.places }
-        ensures at { IfSome result (λ x. x ≡ cell_address W notes.now (placement_of self.now.places) self.now.made.items object instance field.now) }
-        ensures past { IfNone result (2 ^ 64 ≤ cell_address W notes.now (placement_of self.now.places) self.now.made.items object instance field.now) }
+        ensures at { IfSome result (λ x.
+            x ≡ cell_address W notes.now (placement_of self.now.places) self.now.made.items object instance field.now) }
+        ensures past { IfNone result (2 ^ 64 ≤
+            cell_address W notes.now (placement_of self.now.places) self.now.made.items object instance field.now) }
     {
         let offset = instance.checked_mul(self.size_of(object))?;
         let start = self.places.object_base(object).checked_add(offset)?;
@@ -94,7 +96,8 @@ impl<const W: usize> Host<W> {
     )
         requires width { IsWidth W }
         requires notes { IsOf W notes.now self.now.places }
-        ensures after { (s : Concrete) → after_number W notes.now (placement_of self.now.places) self.now.made.items (with_memory s mem.old) at cell.now value.now ≡ with_memory s mem.new }
+        ensures after { (s : Concrete) → after_number W notes.now (placement_of self.now.places) self.now.made.items (with_memory s mem.old)
+            at cell.now value.now ≡ with_memory s mem.new }
         ensures objects { KeepsObjects mem.old mem.new }
     {
         let _ = mem.store(at, cell_bytes::<W>(cell), self.number_of(value));
@@ -105,7 +108,9 @@ impl<const W: usize> Host<W> {
     pub(crate) fn write(&self, notes: &Notes, mem: &mut ObjMem<W>, write: &WriteValue)
         requires width { IsWidth W }
         requires notes { IsOf W notes.now self.now.places }
-        ensures after { (s : Concrete) (slots : List ℕ) → after_stores W notes.now (placement_of self.now.places) self.now.made.items slots (write_store notes.now self.now.made.items write.now) (with_memory s mem.old) ≡ with_memory s mem.new }
+        ensures after { (s : Concrete) (slots : List ℕ) →
+            after_stores W notes.now (placement_of self.now.places) self.now.made.items slots
+            (write_store notes.now self.now.made.items write.now) (with_memory s mem.old) ≡ with_memory s mem.new }
         ensures objects { KeepsObjects mem.old mem.new }
     {
         let found = field_at(
@@ -125,7 +130,9 @@ impl<const W: usize> Host<W> {
         requires width { IsWidth W }
         requires notes { IsOf W notes.now self.now.places }
         requires field { field_at notes.now self.now.made.items write.now.object write.now.instance write.now.field ≡ Some field.now }
-        ensures after { (s : Concrete) (slots : List ℕ) → after_stores W notes.now (placement_of self.now.places) self.now.made.items slots (write_store notes.now self.now.made.items write.now) (with_memory s mem.old) ≡ with_memory s mem.new }
+        ensures after { (s : Concrete) (slots : List ℕ) →
+            after_stores W notes.now (placement_of self.now.places) self.now.made.items slots
+            (write_store notes.now self.now.made.items write.now) (with_memory s mem.old) ≡ with_memory s mem.new }
         ensures objects { KeepsObjects mem.old mem.new }
     {
         // Nothing is mapped past 2^64.
@@ -139,7 +146,9 @@ impl<const W: usize> Host<W> {
     pub(crate) fn write_all(&self, notes: &Notes, mem: &mut ObjMem<W>, writes: &[WriteValue])
         requires width { IsWidth W }
         requires notes { IsOf W notes.now self.now.places }
-        ensures after { (s : Concrete) (slots : List ℕ) → after_stores W notes.now (placement_of self.now.places) self.now.made.items slots (flat_map (write_store notes.now self.now.made.items) writes.now) (with_memory s mem.old) ≡ with_memory s mem.new }
+        ensures after { (s : Concrete) (slots : List ℕ) →
+            after_stores W notes.now (placement_of self.now.places) self.now.made.items slots
+            (flat_map (write_store notes.now self.now.made.items) writes.now) (with_memory s mem.old) ≡ with_memory s mem.new }
         ensures objects { KeepsObjects mem.old mem.new }
     {
         for write in writes {

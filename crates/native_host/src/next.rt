@@ -51,9 +51,21 @@ impl<const W: usize> Host<W> {
         requires serving { IsServing W notes.now script.now self.old }
         requires room { HasRoom self.old 1 }
         requires called { IsCalled frames.old }
-        ensures step { (r : RunState) (v : View) → call_seen W (host_world notes.now script.now self.old) (placement_of self.old.places) (shown self.old mem.old (map saved_of frames.old) r) (call_under_way (map saved_of frames.old)) ≡ Some v → Some result ≡ step_of (written_number W notes.now (placement_of self.old.places) self.old.made.items) (host_plan (host_world notes.now script.now self.old) (shown self.old mem.old (map saved_of frames.old) r).script v) }
-        ensures after { (r : RunState) (v : View) → call_seen W (host_world notes.now script.now self.old) (placement_of self.old.places) (shown self.old mem.old (map saved_of frames.old) r) (call_under_way (map saved_of frames.old)) ≡ Some v → performed W (host_world notes.now script.now self.old) (placement_of self.old.places) (shown self.old mem.old (map saved_of frames.old) r) (host_plan (host_world notes.now script.now self.old) (shown self.old mem.old (map saved_of frames.old) r).script v) ≡ taken false W (host_world notes.now script.now self.old) (placement_of self.old.places) (shown self.new mem.new (map saved_of frames.new) r) result }
-        ensures entered { OnEnter result (λ func args. (func < length notes.now.function) × (length args ≡ length (function_params notes.now func))) }
+        ensures step { (r : RunState) (v : View) →
+            call_seen W (host_world notes.now script.now self.old) (placement_of self.old.places)
+            (shown self.old mem.old (map saved_of frames.old) r) (call_under_way (map saved_of frames.old)) ≡ Some v →
+            Some result ≡ step_of (written_number W notes.now (placement_of self.old.places) self.old.made.items)
+            (host_plan (host_world notes.now script.now self.old) (shown self.old mem.old (map saved_of frames.old) r).script v) }
+        ensures after { (r : RunState) (v : View) →
+            call_seen W (host_world notes.now script.now self.old) (placement_of self.old.places)
+            (shown self.old mem.old (map saved_of frames.old) r) (call_under_way (map saved_of frames.old)) ≡ Some v →
+            performed W (host_world notes.now script.now self.old) (placement_of self.old.places)
+            (shown self.old mem.old (map saved_of frames.old) r)
+            (host_plan (host_world notes.now script.now self.old) (shown self.old mem.old (map saved_of frames.old) r).script v) ≡
+            taken false W (host_world notes.now script.now self.old) (placement_of self.old.places)
+            (shown self.new mem.new (map saved_of frames.new) r) result }
+        ensures entered { OnEnter result (λ func args.
+            (func < length notes.now.function) × (length args ≡ length (function_params notes.now func))) }
         ensures serving { IsServing W notes.now script.now self.new }
         ensures objects { KeepsObjects mem.old mem.new }
         ensures same { OnEnd result (self.new ≡ self.old) }
@@ -90,9 +102,16 @@ impl<const W: usize> Host<W> {
         requires entry { (f : Frame) → slice_get frames.old 0 ≡ Some f → entry ≡ f.entry }
         requires callback { (f : Frame) → slice_get frames.old 0 ≡ Some f → callback ≡ f.callback }
         requires few { callback + 1 < 2 ^ 32 }
-        ensures step { (number : Value → ℕ) → Some result ≡ step_of number (enter_plan notes.now self.old.made.items entry callback (length frames.old) next.now) }
-        ensures after { (script : Script) (r : RunState) (m : Memory) → self.old.made.items ≡ made_objects notes.now script self.old.entries → performed W (host_world notes.now script self.old) (placement_of self.old.places) (shown self.old m (map saved_of frames.old) r) (enter_plan notes.now self.old.made.items entry callback (length frames.old) next.now) ≡ taken false W (host_world notes.now script self.old) (placement_of self.old.places) (shown self.new m (map saved_of frames.new) r) result }
-        ensures entered { OnEnter result (λ func args. (func < length notes.now.function) × (length args ≡ length (function_params notes.now func))) }
+        ensures step { (number : Value → ℕ) →
+            Some result ≡ step_of number (enter_plan notes.now self.old.made.items entry callback (length frames.old) next.now) }
+        ensures after { (script : Script) (r : RunState) (m : Memory) →
+            self.old.made.items ≡ made_objects notes.now script self.old.entries →
+            performed W (host_world notes.now script self.old) (placement_of self.old.places) (shown self.old m (map saved_of frames.old) r)
+            (enter_plan notes.now self.old.made.items entry callback (length frames.old) next.now) ≡
+            taken false W (host_world notes.now script self.old) (placement_of self.old.places)
+            (shown self.new m (map saved_of frames.new) r) result }
+        ensures entered { OnEnter result (λ func args.
+            (func < length notes.now.function) × (length args ≡ length (function_params notes.now func))) }
         ensures same { OnEnd result (self.new ≡ self.old) }
         ensures frames { OnEnd result (frames.new ≡ frames.old) }
         ensures kept { self.new ≡ record self.old { trace = self.new.trace } }
@@ -135,9 +154,18 @@ impl<const W: usize> Host<W> {
         requires known { call.now.signature < length notes.now.signature }
         requires room { HasRoom self.old 1 }
         requires called { IsCalled frames.old }
-        ensures step { Some result ≡ step_of (written_number W notes.now (placement_of self.old.places) self.old.made.items) (reply_plan notes.now self.old.made.items entry (are_mapped W notes.now (placement_of self.old.places) self.old.made.items (ranges mem.old) call.now.write) call.now) }
-        ensures after { (script : Script) (r : RunState) → self.old.made.items ≡ made_objects notes.now script self.old.entries → performed W (host_world notes.now script self.old) (placement_of self.old.places) (shown self.old mem.old (map saved_of frames.old) r) (reply_plan notes.now self.old.made.items entry (are_mapped W notes.now (placement_of self.old.places) self.old.made.items (ranges mem.old) call.now.write) call.now) ≡ taken false W (host_world notes.now script self.old) (placement_of self.old.places) (shown self.new mem.new (map saved_of frames.new) r) result }
-        ensures entered { OnEnter result (λ func args. (func < length notes.now.function) × (length args ≡ length (function_params notes.now func))) }
+        ensures step { Some result ≡ step_of (written_number W notes.now (placement_of self.old.places) self.old.made.items)
+            (reply_plan notes.now self.old.made.items entry
+            (are_mapped W notes.now (placement_of self.old.places) self.old.made.items (ranges mem.old) call.now.write) call.now) }
+        ensures after { (script : Script) (r : RunState) → self.old.made.items ≡ made_objects notes.now script self.old.entries →
+            performed W (host_world notes.now script self.old) (placement_of self.old.places)
+            (shown self.old mem.old (map saved_of frames.old) r)
+            (reply_plan notes.now self.old.made.items entry
+            (are_mapped W notes.now (placement_of self.old.places) self.old.made.items (ranges mem.old) call.now.write) call.now) ≡
+            taken false W (host_world notes.now script self.old) (placement_of self.old.places)
+            (shown self.new mem.new (map saved_of frames.new) r) result }
+        ensures entered { OnEnter result (λ func args.
+            (func < length notes.now.function) × (length args ≡ length (function_params notes.now func))) }
         ensures objects { KeepsObjects mem.old mem.new }
         ensures same { OnEnd result (self.new ≡ self.old) }
         ensures memory { OnEnd result (mem.new ≡ mem.old) }
@@ -226,7 +254,8 @@ impl<const W: usize> Host<W> {
         requires width { IsWidth W }
         requires notes { IsOf W notes.now self.now.places }
         requires frame { 0 < length frames.now }
-        ensures after { (s : Concrete) → after_stores W notes.now (placement_of self.now.places) self.now.made.items (top_slots frames.now) (out_store params.now out.now) (with_memory s mem.old) ≡ with_memory s mem.new }
+        ensures after { (s : Concrete) → after_stores W notes.now (placement_of self.now.places) self.now.made.items (top_slots frames.now)
+            (out_store params.now out.now) (with_memory s mem.old) ≡ with_memory s mem.new }
         ensures objects { KeepsObjects mem.old mem.new }
     {
         if let Some(cell) = lent_at(params, out.argument) {
@@ -252,7 +281,8 @@ impl<const W: usize> Host<W> {
         requires width { IsWidth W }
         requires notes { IsOf W notes.now self.now.places }
         requires frame { 0 < length frames.now }
-        ensures after { (s : Concrete) → after_stores W notes.now (placement_of self.now.places) self.now.made.items (top_slots frames.now) (flat_map (out_store params.now) outs.now) (with_memory s mem.old) ≡ with_memory s mem.new }
+        ensures after { (s : Concrete) → after_stores W notes.now (placement_of self.now.places) self.now.made.items (top_slots frames.now)
+            (flat_map (out_store params.now) outs.now) (with_memory s mem.old) ≡ with_memory s mem.new }
         ensures objects { KeepsObjects mem.old mem.new }
     {
         for out in outs {

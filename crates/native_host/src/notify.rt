@@ -37,7 +37,8 @@ impl<const W: usize> Host<W> {
     fn notification_fits(&self, notes: &Notes, notify: &Notify) -> bool
         requires { IsNotes notes.now }
         ensures enters { result ≡ true → can_enter notes.now self.now.made.items notify.now.function notify.now.args ≡ true }
-        ensures fits { (script : Script) (at : ScriptPlace) → self.now.thunks ≡ min at.thunks (2 ^ 64 - 1) → result ≡ notification_fits (host_world notes.now script self.now) self.now.made.items at notify.now }
+        ensures fits { (script : Script) (at : ScriptPlace) → self.now.thunks ≡ min at.thunks (2 ^ 64 - 1) →
+            result ≡ notification_fits (host_world notes.now script self.now) self.now.made.items at notify.now }
     {
         can_enter(notes, self.made.as_slice(), notify.function, &notify.args)
             && notes.thunk.len() as u64 <= self.thunks
@@ -49,9 +50,15 @@ impl<const W: usize> Host<W> {
     pub fn notification(&mut self, notes: &Notes, script: &Script, frames: &FrameStack) -> HostStep
         requires serving { IsServing W notes.now script.now self.old }
         requires room { HasRoom self.old 1 }
-        ensures step { (r : RunState) (m : Memory) (hosts : List SavedFrame) → CountsThunks self.old r → Some result ≡ step_of (written_number W notes.now (placement_of self.old.places) self.old.made.items) (due_plan (host_world notes.now script.now self.old) (shown self.old m hosts r) (length frames.now)) }
-        ensures after { (r : RunState) (m : Memory) (hosts : List SavedFrame) → CountsThunks self.old r → performed W (host_world notes.now script.now self.old) (placement_of self.old.places) (shown self.old m hosts r) (due_plan (host_world notes.now script.now self.old) (shown self.old m hosts r) (length frames.now)) ≡ taken true W (host_world notes.now script.now self.old) (placement_of self.old.places) (shown self.new m hosts r) result }
-        ensures entered { OnEnter result (λ func args. (func < length notes.now.function) × (length args ≡ length (function_params notes.now func))) }
+        ensures step { (r : RunState) (m : Memory) (hosts : List SavedFrame) → CountsThunks self.old r →
+            Some result ≡ step_of (written_number W notes.now (placement_of self.old.places) self.old.made.items)
+            (due_plan (host_world notes.now script.now self.old) (shown self.old m hosts r) (length frames.now)) }
+        ensures after { (r : RunState) (m : Memory) (hosts : List SavedFrame) → CountsThunks self.old r →
+            performed W (host_world notes.now script.now self.old) (placement_of self.old.places) (shown self.old m hosts r)
+            (due_plan (host_world notes.now script.now self.old) (shown self.old m hosts r) (length frames.now)) ≡
+            taken true W (host_world notes.now script.now self.old) (placement_of self.old.places) (shown self.new m hosts r) result }
+        ensures entered { OnEnter result (λ func args.
+            (func < length notes.now.function) × (length args ≡ length (function_params notes.now func))) }
         ensures serving { IsServing W notes.now script.now self.new }
         ensures same { OnEnd result (self.new ≡ self.old) }
         ensures kept { self.new ≡ record self.old { notifications = self.new.notifications; trace = self.new.trace } }

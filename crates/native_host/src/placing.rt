@@ -25,7 +25,9 @@ impl<const W: usize> Host<W> {
         requires notes { IsOf W notes.now self.old.places }
         requires next { IsNext W notes.now (placement_of self.old.places) (length self.old.made.items) mem.old object.now }
         requires reserved { length self.old.made.items < vec_capacity self.old.made }
-        ensures placed { (s : Concrete) → with_object (with_memory s mem.old) (object_range W notes.now (placement_of self.old.places) (length self.old.made.items) (script_object object.now)) ≡ with_memory s mem.new }
+        ensures placed { (s : Concrete) → with_object (with_memory s mem.old)
+            (object_range W notes.now (placement_of self.old.places) (length self.old.made.items) (script_object object.now)) ≡
+            with_memory s mem.new }
         ensures memory { mem.new ≡ placed W mem.old (object_bytes W notes.now (script_object object.now)) }
         ensures made { self.new.made.items ≡ self.old.made.items ++ script_object object.now ∷ [] }
         ensures same { self.new ≡ record self.old { made = self.new.made } }
@@ -49,7 +51,8 @@ impl<const W: usize> Host<W> {
         requires notes { IsOf W notes.now self.old.places }
         requires coming { AreComing W notes.now (placement_of self.old.places) (length self.old.made.items) mem.old objects.now }
         requires reserved { length self.old.made.items + length objects.now ≤ vec_capacity self.old.made }
-        ensures placed { (s : Concrete) → with_objects W notes.now (placement_of self.old.places) (length self.old.made.items) (map script_object objects.now) (with_memory s mem.old) ≡ with_memory s mem.new }
+        ensures placed { (s : Concrete) → with_objects W notes.now (placement_of self.old.places) (length self.old.made.items)
+            (map script_object objects.now) (with_memory s mem.old) ≡ with_memory s mem.new }
         ensures made { self.new.made.items ≡ self.old.made.items ++ map script_object objects.now }
         ensures same { self.new ≡ record self.old { made = self.new.made } }
         ensures reserved { vec_capacity self.old.made ≤ vec_capacity self.new.made }
@@ -72,7 +75,9 @@ impl<const W: usize> Host<W> {
         requires width { IsWidth W }
         requires notes { IsOf W notes.now self.now.places }
         requires made { slice_get self.now.made.items number ≡ Some (script_object object.now) }
-        ensures after { (s : Concrete) (slots : List ℕ) → after_stores W notes.now (placement_of self.now.places) self.now.made.items slots (cell_store notes.now number object.now cell.now) (with_memory s mem.old) ≡ with_memory s mem.new }
+        ensures after { (s : Concrete) (slots : List ℕ) →
+            after_stores W notes.now (placement_of self.now.places) self.now.made.items slots
+            (cell_store notes.now number object.now cell.now) (with_memory s mem.old) ≡ with_memory s mem.new }
         ensures objects { KeepsObjects mem.old mem.new }
     {
         // No object has address 0.
@@ -98,7 +103,9 @@ impl<const W: usize> Host<W> {
         requires width { IsWidth W }
         requires notes { IsOf W notes.now self.now.places }
         requires made { slice_get self.now.made.items number ≡ Some (script_object object.now) }
-        ensures after { (s : Concrete) (slots : List ℕ) → after_stores W notes.now (placement_of self.now.places) self.now.made.items slots (flat_map (cell_store notes.now number object.now) cells.now) (with_memory s mem.old) ≡ with_memory s mem.new }
+        ensures after { (s : Concrete) (slots : List ℕ) →
+            after_stores W notes.now (placement_of self.now.places) self.now.made.items slots
+            (flat_map (cell_store notes.now number object.now) cells.now) (with_memory s mem.old) ≡ with_memory s mem.new }
         ensures objects { KeepsObjects mem.old mem.new }
     {
         for cell in cells {
@@ -111,7 +118,9 @@ impl<const W: usize> Host<W> {
         requires width { IsWidth W }
         requires notes { IsOf W notes.now self.now.places }
         requires made { slice_get self.now.made.items number ≡ Some (script_object object.now) }
-        ensures after { (s : Concrete) (slots : List ℕ) → after_stores W notes.now (placement_of self.now.places) self.now.made.items slots (object_stores notes.now (number, object.now)) (with_memory s mem.old) ≡ with_memory s mem.new }
+        ensures after { (s : Concrete) (slots : List ℕ) →
+            after_stores W notes.now (placement_of self.now.places) self.now.made.items slots (object_stores notes.now (number, object.now))
+            (with_memory s mem.old) ≡ with_memory s mem.new }
         ensures objects { KeepsObjects mem.old mem.new }
     {
         self.fill_cells(notes, mem, number, object, object.cells.as_slice());
@@ -121,9 +130,12 @@ impl<const W: usize> Host<W> {
     fn fill_objects(&self, notes: &Notes, mem: &mut ObjMem<W>, first: u64, objects: &[ScriptObject])
         requires width { IsWidth W }
         requires notes { IsOf W notes.now self.now.places }
-        requires made { (k : ℕ) (o : ScriptObject) → slice_get objects.now k ≡ Some o → slice_get self.now.made.items (first + k) ≡ Some (script_object o) }
+        requires made { (k : ℕ) (o : ScriptObject) → slice_get objects.now k ≡ Some o →
+            slice_get self.now.made.items (first + k) ≡ Some (script_object o) }
         requires few { first + length objects.now < 2 ^ 63 }
-        ensures after { (s : Concrete) (slots : List ℕ) → after_stores W notes.now (placement_of self.now.places) self.now.made.items slots (filling notes.now first objects.now) (with_memory s mem.old) ≡ with_memory s mem.new }
+        ensures after { (s : Concrete) (slots : List ℕ) →
+            after_stores W notes.now (placement_of self.now.places) self.now.made.items slots (filling notes.now first objects.now)
+            (with_memory s mem.old) ≡ with_memory s mem.new }
         ensures objects { KeepsObjects mem.old mem.new }
     {
         for (k, object) in objects.iter().enumerate() {
@@ -150,11 +162,15 @@ impl<const W: usize> Host<W> {
         requires coming { AreComing W notes.now (placement_of self.old.places) (length self.old.made.items) mem.old objects.now }
         requires reserved { length self.old.made.items + length objects.now ≤ vec_capacity self.old.made }
         requires few { length self.old.made.items + length objects.now < 2 ^ 63 }
-        ensures after { (s : Concrete) (slots : List ℕ) → with_made W notes.now (placement_of self.old.places) self.old.made.items objects.now slots (with_memory s mem.old) ≡ with_memory s mem.new }
+        ensures after { (s : Concrete) (slots : List ℕ) →
+            with_made W notes.now (placement_of self.old.places) self.old.made.items objects.now slots (with_memory s mem.old) ≡
+            with_memory s mem.new }
         ensures made { self.new.made.items ≡ self.old.made.items ++ map script_object objects.now }
         ensures same { self.new ≡ record self.old { made = self.new.made } }
         ensures reserved { vec_capacity self.old.made ≤ vec_capacity self.new.made }
-        ensures ranges { (s : Concrete) → ranges mem.new ≡ (with_objects W notes.now (placement_of self.old.places) (length self.old.made.items) (map script_object objects.now) (with_memory s mem.old)).objects }
+        ensures ranges { (s : Concrete) → ranges mem.new ≡
+            (with_objects W notes.now (placement_of self.old.places) (length self.old.made.items) (map script_object objects.now)
+            (with_memory s mem.old)).objects }
         ensures limits { (mem.new.byte_limit ≡ mem.old.byte_limit) × (mem.new.object_limit ≡ mem.old.object_limit) }
     {
         let first = self.count_made();

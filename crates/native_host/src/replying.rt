@@ -2,7 +2,8 @@
 ghost use Rattle.std.specs.Prelude.{◌≡◌, ℕ, ◌≤◌, ◌<◌, length, Some, slice_get, nat_eq, nat_lt};
 ghost use Rattle.std.specs.List.{count_by, list_all};
 ghost use Rattle.note_types.specs.declared.notes.Want.{Want};
-ghost use Rattle.host_model.specs.HostPlans.{all_named_right, lent_at, named_right, out_fits, outs_right, reply_fits, times_named, write_fits};
+ghost use Rattle.host_model.specs.HostPlans.{all_named_right, lent_at, named_right, out_fits, outs_right, reply_fits, times_named};
+ghost use Rattle.host_model.specs.HostPlans.{write_fits};
 ghost use Rattle.host_model.specs.ScriptValues.{fits_result, is_any};
 
 use crate::cells::field_at;

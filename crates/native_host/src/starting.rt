@@ -1,5 +1,6 @@
 //! The start of a host (docs/HOST.md, "Memory" and "The start").
-ghost use Rattle.std.specs.Prelude.{◌≡◌, ℕ, ◌+◌, ◌*◌, ◌-◌, ◌%◌, ◌⊎◌, ◌<◌, ◌≤◌, ◌^◌, [], ◌++◌, IfOk, OnOk, List, length, map, nat_eq, ◌||◌, if◌then◌else◌, Some, slice_get, vec_capacity};
+ghost use Rattle.std.specs.Prelude.{◌≡◌, ℕ, ◌+◌, ◌*◌, ◌-◌, ◌%◌, ◌⊎◌, ◌<◌, ◌≤◌, ◌^◌, [], ◌++◌, IfOk, OnOk, List, length, map, nat_eq, ◌||◌};
+ghost use Rattle.std.specs.Prelude.{if◌then◌else◌, Some, slice_get, vec_capacity};
 ghost use Rattle.std.specs.List.{sum_by};
 ghost use Rattle.ebc_width.specs.Ranges.{Range};
 ghost use Rattle.ebc_width.specs.Width.{IsWidth};
@@ -52,8 +53,13 @@ pub fn start<const W: usize>(
     ensures notifications { IfOk result (λ t. t.0.notifications ≡ 0) }
     ensures thunks { IfOk result (λ t. t.0.thunks ≡ 0) }
     ensures trace { IfOk result (λ t. t.0.trace.items ≡ []) }
-    ensures memory { IfOk result (λ t. IsMemoryOf W (world_of image.now notes.now script.now) (own_placement W (world_of image.now notes.now script.now)) 0 t.1) }
-    ensures state { IfOk result (λ t. with_memory (start_machine W (world_of image.now notes.now script.now) (own_placement W (world_of image.now notes.now script.now)) (mapped image.now (own_placement W (world_of image.now notes.now script.now)).image)) t.1 ≡ start_machine W (world_of image.now notes.now script.now) (own_placement W (world_of image.now notes.now script.now)) (mapped image.now (own_placement W (world_of image.now notes.now script.now)).image)) }
+    ensures memory { IfOk result (λ t.
+        IsMemoryOf W (world_of image.now notes.now script.now) (own_placement W (world_of image.now notes.now script.now)) 0 t.1) }
+    ensures state { IfOk result (λ t.
+        with_memory (start_machine W (world_of image.now notes.now script.now) (own_placement W (world_of image.now notes.now script.now))
+        (mapped image.now (own_placement W (world_of image.now notes.now script.now)).image)) t.1 ≡
+        start_machine W (world_of image.now notes.now script.now) (own_placement W (world_of image.now notes.now script.now))
+        (mapped image.now (own_placement W (world_of image.now notes.now script.now)).image)) }
     ensures room { IfOk result (λ t. HasRoom t.0 (all_events script.now)) }
 {
     let (mut host, mut mem) = fresh_host::<W>(alloc, image, notes, script)?;
@@ -294,7 +300,9 @@ fn places_of<const W: usize>(
     ensures placement { IfOk result (λ t. placement_of t.0 ≡ own_placement W (world_of image.now notes.now script.now)) }
     ensures size { IfOk result (λ t. t.0.image_size ≡ image.now.size) }
     ensures kept { IfOk result (λ t. IsOf W notes.now t.0) }
-    ensures limit { IfOk result (λ t. t.1 ≡ sum_by (λ (r : Range). padded r.size) (all_ranges W (world_of image.now notes.now script.now) (own_placement W (world_of image.now notes.now script.now)))) }
+    ensures limit { IfOk result (λ t.
+        t.1 ≡ sum_by (λ (r : Range). padded r.size)
+        (all_ranges W (world_of image.now notes.now script.now) (own_placement W (world_of image.now notes.now script.now)))) }
     ensures small { IfOk result (λ t. t.1 ≤ 14 * 2 ^ 20) }
     ensures stack { IfOk result (λ t. t.0.stack_bytes ≤ 2 ^ 20) }
 {
@@ -367,7 +375,10 @@ impl<const W: usize> Host<W> {
         requires native { self.now.places.native ≡ first_base W }
         requires stack { self.now.places.stack ≡ self.now.places.native + padded (area_bytes notes.now) }
         requires base { self.now.places.image ≡ self.now.places.stack + padded (stack_bytes W notes.now) }
-        ensures state { (script : Script) → with_memory (bare_machine W (world_of image.now notes.now script) (placement_of self.now.places) (mapped image.now self.now.places.image)) mem.new ≡ bare_machine W (world_of image.now notes.now script) (placement_of self.now.places) (mapped image.now self.now.places.image) }
+        ensures state { (script : Script) → with_memory
+            (bare_machine W (world_of image.now notes.now script) (placement_of self.now.places) (mapped image.now self.now.places.image))
+            mem.new ≡ bare_machine W (world_of image.now notes.now script) (placement_of self.now.places)
+            (mapped image.now self.now.places.image) }
         ensures limits { (mem.new.byte_limit ≡ mem.old.byte_limit) × (mem.new.object_limit ≡ mem.old.object_limit) }
     {
         let things = 1 + self.places.methods + self.places.functions + HANDLES;
@@ -384,8 +395,13 @@ impl<const W: usize> Host<W> {
         requires notes { IsNotes notes.now }
         requires script { IsScript notes.now script.now }
         requires fresh { IsFresh W (world_of image.now notes.now script.now) self.old mem.old }
-        ensures state { with_memory (start_machine W (world_of image.now notes.now script.now) (own_placement W (world_of image.now notes.now script.now)) (mapped image.now (own_placement W (world_of image.now notes.now script.now)).image)) mem.new ≡ start_machine W (world_of image.now notes.now script.now) (own_placement W (world_of image.now notes.now script.now)) (mapped image.now (own_placement W (world_of image.now notes.now script.now)).image) }
-        ensures memory { IsMemoryOf W (world_of image.now notes.now script.now) (own_placement W (world_of image.now notes.now script.now)) 0 mem.new }
+        ensures state { with_memory (start_machine W (world_of image.now notes.now script.now)
+            (own_placement W (world_of image.now notes.now script.now))
+            (mapped image.now (own_placement W (world_of image.now notes.now script.now)).image)) mem.new ≡
+            start_machine W (world_of image.now notes.now script.now) (own_placement W (world_of image.now notes.now script.now))
+            (mapped image.now (own_placement W (world_of image.now notes.now script.now)).image) }
+        ensures memory { IsMemoryOf W (world_of image.now notes.now script.now) (own_placement W (world_of image.now notes.now script.now))
+            0 mem.new }
         ensures made { self.new.made.items ≡ made_objects notes.now script.now 0 }
         ensures same { self.new ≡ record self.old { made = self.new.made } }
         ensures reserved { vec_capacity self.old.made ≤ vec_capacity self.new.made }

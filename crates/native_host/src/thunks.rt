@@ -66,8 +66,11 @@ impl<const W: usize> Host<W> {
     pub fn make_thunk(&mut self, notes: &Notes, mem: &mut ObjMem<W>, addr: u64) -> HostStep
         requires width { IsWidth W }
         requires notes { IsOf W notes.now self.old.places }
-        ensures step { (world : World) → world.notes ≡ notes.now → result ≡ thunk_step addr (thunk_view world (placement_of self.old.places) (memory_state mem.old) addr) }
-        ensures cell { (world : World) (s : Concrete) (f : ℕ) → world.notes ≡ notes.now → thunk_view world (placement_of self.old.places) (memory_state mem.old) addr ≡ Names f → stored (with_memory s mem.old) addr W (thunk_at notes.now (placement_of self.old.places) f) ≡ Some (with_memory s mem.new) }
+        ensures step { (world : World) → world.notes ≡ notes.now →
+            result ≡ thunk_step addr (thunk_view world (placement_of self.old.places) (memory_state mem.old) addr) }
+        ensures cell { (world : World) (s : Concrete) (f : ℕ) → world.notes ≡ notes.now →
+            thunk_view world (placement_of self.old.places) (memory_state mem.old) addr ≡ Names f →
+            stored (with_memory s mem.old) addr W (thunk_at notes.now (placement_of self.old.places) f) ≡ Some (with_memory s mem.new) }
         ensures objects { KeepsObjects mem.old mem.new }
         ensures memory { OnEnd result (mem.new ≡ mem.old) }
         ensures same { OnEnd result (self.new ≡ self.old) }

@@ -47,7 +47,8 @@ fn result_sort(notes: &Notes, func: u32) -> Sort
 impl<const W: usize> Host<W> {
     // The bytes of an instance of a typed object, none where it isn't made.
     pub(crate) fn size_of(&self, object: u64) -> u64
-        ensures { result ≡ option_map_or (λ (o : TypedObject). instance_bytes self.now.places o.shape) (slice_get self.now.made.items object) 0 }
+        ensures { result ≡ option_map_or (λ (o : TypedObject). instance_bytes self.now.places o.shape)
+            (slice_get self.now.made.items object) 0 }
     {
         match self.made.as_slice().get(object as usize) {
             Some(object) => self.places.instance_bytes(object.shape),
@@ -57,7 +58,8 @@ impl<const W: usize> Host<W> {
 
     // The address of an instance of a typed object, modulo 2^64.
     fn instance_address(&self, object: u64, instance: u64) -> u64
-        ensures { (w : ℕ) (notes : Notes) → IsOf w notes self.now.places → result ≡ word (instance_address w notes (placement_of self.now.places) self.now.made.items object instance) }
+        ensures { (w : ℕ) (notes : Notes) → IsOf w notes self.now.places →
+            result ≡ word (instance_address w notes (placement_of self.now.places) self.now.made.items object instance) }
     {
         let size = self.size_of(object);
         let base = self.places.object_base(object);
@@ -67,7 +69,8 @@ impl<const W: usize> Host<W> {
     /// The number of a value that a script writes (docs/HOST.md, "Values"), 0 for `any`, where it says nothing.
     pub fn number_of(&self, value: &Value) -> u64
         requires { IsWidth W }
-        ensures { (notes : Notes) → IsOf W notes self.now.places → result ≡ written_number W notes (placement_of self.now.places) self.now.made.items value.now }
+        ensures { (notes : Notes) → IsOf W notes self.now.places →
+            result ≡ written_number W notes (placement_of self.now.places) self.now.made.items value.now }
     {
         match *value {
             Value::Int(n) => n,
@@ -90,10 +93,12 @@ impl<const W: usize> Host<W> {
     pub fn result_of(&self, notes: &Notes, func: u32, r7: u64) -> Value
         requires width { IsWidth W }
         requires notes { IsOf W notes.now self.now.places }
-        ensures read { result ≡ reading_of W notes.now (placement_of self.now.places) self.now.made.items (result_sort notes.now func) (cut_at W r7) }
+        ensures read { result ≡ reading_of W notes.now (placement_of self.now.places) self.now.made.items (result_sort notes.now func)
+            (cut_at W r7) }
 
         // That is what the host sees in each state of its run in which R7 holds the number.
-        ensures run { (world : World) (r : RunState) → world.notes ≡ notes.now → IsHost W world self.now → Tells self.now r → register r.machine 7 ≡ r7 → result ≡ result_of W world (placement_of self.now.places) r func }
+        ensures run { (world : World) (r : RunState) → world.notes ≡ notes.now → IsHost W world self.now → Tells self.now r →
+            register r.machine 7 ≡ r7 → result ≡ result_of W world (placement_of self.now.places) r func }
     {
         let sort = result_sort(notes, func);
         self.places
@@ -105,8 +110,10 @@ impl<const W: usize> Host<W> {
         requires width { IsWidth W }
         requires notes { IsOf W notes.now self.old.places }
         requires room { HasRoom self.old 1 }
-        ensures read { result ≡ reading_of W notes.now (placement_of self.old.places) self.old.made.items (result_sort notes.now func) (cut_at W r7) }
-        ensures run { (world : World) (r : RunState) → world.notes ≡ notes.now → IsHost W world self.old → Tells self.old r → register r.machine 7 ≡ r7 → result ≡ result_of W world (placement_of self.old.places) r func }
+        ensures read { result ≡ reading_of W notes.now (placement_of self.old.places) self.old.made.items (result_sort notes.now func)
+            (cut_at W r7) }
+        ensures run { (world : World) (r : RunState) → world.notes ≡ notes.now → IsHost W world self.old → Tells self.old r →
+            register r.machine 7 ≡ r7 → result ≡ result_of W world (placement_of self.old.places) r func }
         ensures event { self.new.trace.items ≡ self.old.trace.items ++ Event.Returned func result ∷ [] }
         ensures same { self.new ≡ record self.old { trace = self.new.trace } }
         ensures serving { (script : Script) → IsServing W notes.now script self.old → IsServing W notes.now script self.new }
@@ -124,8 +131,10 @@ impl<const W: usize> Host<W> {
         requires width { IsWidth W }
         requires notes { IsOf W notes.now self.old.places }
         requires room { HasRoom self.old 1 }
-        ensures read { result ≡ reading_of W notes.now (placement_of self.old.places) self.old.made.items (result_sort notes.now func) (cut_at W r7) }
-        ensures run { (world : World) (r : RunState) → world.notes ≡ notes.now → IsHost W world self.old → Tells self.old r → register r.machine 7 ≡ r7 → result ≡ result_of W world (placement_of self.old.places) r func }
+        ensures read { result ≡ reading_of W notes.now (placement_of self.old.places) self.old.made.items (result_sort notes.now func)
+            (cut_at W r7) }
+        ensures run { (world : World) (r : RunState) → world.notes ≡ notes.now → IsHost W world self.old → Tells self.old r →
+            register r.machine 7 ≡ r7 → result ≡ result_of W world (placement_of self.old.places) r func }
         ensures event { self.new.trace.items ≡ self.old.trace.items ++ Event.Resumed func result ∷ [] }
         ensures same { self.new ≡ record self.old { trace = self.new.trace } }
         ensures serving { (script : Script) → IsServing W notes.now script self.old → IsServing W notes.now script self.new }

@@ -17,7 +17,8 @@
 #![tactic(auto)]
 
 ghost use Rattle.std.specs.Prelude.{◌≡◌, ℕ, ◌+◌, ◌-◌, ◌^◌, ◌<◌, ◌≤◌, Some, IfSome, IfNone, IsNone, IsTrue, ◌↔◌};
-ghost use Rattle.natural_index.specs.Index.{IsIndexSize, HasRoom, IsIndex, IsSpelled, OneIndex, ReadsSpelled, SpellsRead, raw_of, natural_bits, field_at, tag_at, fields_of, index_of, pair_of};
+ghost use Rattle.natural_index.specs.Index.{IsIndexSize, HasRoom, IsIndex, IsSpelled, OneIndex, ReadsSpelled, SpellsRead, raw_of};
+ghost use Rattle.natural_index.specs.Index.{natural_bits, field_at, tag_at, fields_of, index_of, pair_of};
 
 /// An index: so many natural units and bytes, both negated where `neg` is set. A natural unit is
 /// the width W of a pointer, so the value is n × W + c bytes, where (n, c) is the pair.

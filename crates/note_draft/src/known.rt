@@ -3,7 +3,10 @@ ghost use Rattle.std.specs.Prelude.{◌≡◌, not};
 ghost use Rattle.std.specs.List.{position};
 ghost use Rattle.ebc_base.specs.Tables.{is_named};
 ghost use Rattle.note_texts.specs.Outcome.{Gives};
-ghost use Rattle.note_draft.specs.Known.{known, knows_cell, knows_fields, knows_item, knows_locals, knows_params, knows_regs, knows_result, knows_stack, knows_type, knows_want, knows_wants, unknown, unknown_in_functions, unknown_in_points, unknown_in_shapes, unknown_in_signatures, unknown_in_sites, unknown_in_statics, unknown_in_thunks};
+ghost use Rattle.note_draft.specs.Known.{known, knows_cell, knows_fields, knows_item, knows_locals, knows_params, knows_regs, knows_result};
+ghost use Rattle.note_draft.specs.Known.{knows_stack, knows_type, knows_want, knows_wants, unknown, unknown_in_functions};
+ghost use Rattle.note_draft.specs.Known.{unknown_in_points, unknown_in_shapes, unknown_in_signatures, unknown_in_sites, unknown_in_statics};
+ghost use Rattle.note_draft.specs.Known.{unknown_in_thunks};
 
 use crate::draft::{
     FunctionDraft, NotesDraft, PointDraft, ShapeDraft, SignatureDraft, SiteDraft, StaticDraft,

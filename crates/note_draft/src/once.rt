@@ -4,7 +4,9 @@ ghost use Rattle.std.specs.List.{position};
 ghost use Rattle.note_draft.specs.declared.finding.Refusal.TheVariants.{Twice};
 ghost use Rattle.note_texts.specs.Outcome.{Gives};
 ghost use Rattle.note_draft.specs.Findings.{refused};
-ghost use Rattle.note_draft.specs.Once.{function_names, method_names, names_in, names_of_calls, names_of_code, names_of_data, numbered, once, repeat_in, repeated_in_points, repeated_place_in, repeats_field, repeats_register, shape_names, signature_names};
+ghost use Rattle.note_draft.specs.Once.{function_names, method_names, names_in, names_of_calls, names_of_code, names_of_data, numbered};
+ghost use Rattle.note_draft.specs.Once.{once, repeat_in, repeated_in_points, repeated_place_in, repeats_field, repeats_register};
+ghost use Rattle.note_draft.specs.Once.{shape_names, signature_names};
 
 use crate::draft::{FunctionDraft, NotesDraft, PointDraft, ShapeDraft, SignatureDraft};
 use crate::finding::{Finding, Key, Refusal, TableList, refuse};

@@ -4,7 +4,10 @@ ghost use Rattle.toml.specs.View.{view, table_view, items_view};
 ghost use Rattle.note_texts.specs.Keys.{only_keys};
 ghost use Rattle.ebc_base.specs.Tables.{with_name};
 ghost use Rattle.note_texts.specs.Outcome.{Gives, GivesBy};
-ghost use Rattle.note_draft.specs.Drafts.{call_lists, code_lists, data_lists, draft_keys, draft_lists, extent_of, function_enter, function_keys, interface_of, shape_of, static_of, thunk_of, function_of, point_keys, point_made, point_of, has_room, method_of, signature_in, signature_of, signature_result, site_of, signatures_from, signatures_at, draft_of};
+ghost use Rattle.note_draft.specs.Drafts.{call_lists, code_lists, data_lists, draft_keys, draft_lists, extent_of, function_enter};
+ghost use Rattle.note_draft.specs.Drafts.{function_keys, interface_of, shape_of, static_of, thunk_of, function_of, point_keys, point_made};
+ghost use Rattle.note_draft.specs.Drafts.{point_of, has_room, method_of, signature_in, signature_of, signature_result, site_of};
+ghost use Rattle.note_draft.specs.Drafts.{signatures_from, signatures_at, draft_of};
 
 use crate::draft::{
     FunctionDraft, NotesDraft, PointDraft, ShapeDraft, SignatureDraft, SiteDraft, StaticDraft,

@@ -70,7 +70,8 @@ fn filled_items(
     list: TableList,
     items: &[Value],
 ) -> Result<Vec<Value>, FillEnd>
-    ensures labels { Checks result (items_labels (names_in rows.entry.context) (labels_in rows.entry.context) list 0 (items_view items.now)) }
+    ensures labels { Checks result (items_labels (names_in rows.entry.context) (labels_in rows.entry.context) list 0
+        (items_view items.now)) }
     ensures kept { IfOk result (λ values. AreKept (place_in rows.entry.context) list (map view items.now) (map view values.items)) }
 {
     let mut values = Vec::new(alloc);
@@ -88,7 +89,8 @@ fn filled_list(
     table: &Table,
     key: &str,
 ) -> Result<Option<Vec<Value>>, FillEnd>
-    ensures labels { Checks result (list_labels (names_in rows.entry.context) (labels_in rows.entry.context) list (get_member key.now (table_view table.now))) }
+    ensures labels { Checks result (list_labels (names_in rows.entry.context) (labels_in rows.entry.context) list
+        (get_member key.now (table_view table.now))) }
     ensures kept { IfOk result (IsFilledList (place_in rows.entry.context) list (get_member key.now (table_view table.now))) }
 {
     let Some(value) = value_at(table, key) else {

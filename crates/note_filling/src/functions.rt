@@ -79,7 +79,8 @@ fn put_place(
     item: usize,
     row: &mut Table,
 ) -> Result<Option<u64>, FillEnd>
-    ensures labels { Checks result (label_fault (names_in context.entry) (labels_in context.entry) lists.Function keys.Place item (function_text (table_view row.old))) }
+    ensures labels { Checks result (label_fault (names_in context.entry) (labels_in context.entry) lists.Function keys.Place item
+        (function_text (table_view row.old))) }
     ensures replaced { OnOk result (IsReplaced (place_in context.entry) (codes "place") (table_view row.old) (table_view row.new)) }
 {
     let finding = Finding {
@@ -94,7 +95,8 @@ fn put_place(
 
 // Puts a function's end where a label stands there.
 fn put_end(alloc: Global, context: Context, item: usize, row: &mut Table) -> Result<(), FillEnd>
-    ensures labels { Checks result (label_fault (names_in context.entry) (labels_in context.entry) lists.Function keys.End item (text_in (codes "end") (table_view row.old))) }
+    ensures labels { Checks result (label_fault (names_in context.entry) (labels_in context.entry) lists.Function keys.End item
+        (text_in (codes "end") (table_view row.old))) }
     ensures replaced { OnOk result (IsReplaced (place_in context.entry) (codes "end") (table_view row.old) (table_view row.new)) }
 {
     let finding = Finding {
@@ -179,8 +181,10 @@ pub(crate) fn fill_function(
     item: usize,
     row: &mut Table,
 ) -> Result<(), FillEnd>
-    ensures labels { Checks result (row_labels (names_in rows.entry.context) (labels_in rows.entry.context) lists.Function item (table_view row.old)) }
-    ensures kept { OnOk result (IsRowKept (place_in rows.entry.context) (place_keys lists.Function) (table_view row.old) (table_view row.new)) }
+    ensures labels { Checks result (row_labels (names_in rows.entry.context) (labels_in rows.entry.context) lists.Function item
+        (table_view row.old)) }
+    ensures kept { OnOk result (IsRowKept (place_in rows.entry.context) (place_keys lists.Function) (table_view row.old)
+        (table_view row.new)) }
 {
     let place = put_place(alloc, rows.context, item, row)?;
     put_end(alloc, rows.context, item, row)?;

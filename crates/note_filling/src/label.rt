@@ -121,7 +121,8 @@ pub(crate) fn label_of(
     finding: Finding,
     text: Option<&str>,
 ) -> Result<Option<Placed>, FillEnd>
-    ensures gives { Gives result (label_of code (names_in context.entry) (labels_in context.entry) (path_of finding) (option_map (λ t. t.now) text.entry)) }
+    ensures gives { Gives result (label_of code (names_in context.entry) (labels_in context.entry) (path_of finding)
+        (option_map (λ t. t.now) text.entry)) }
     ensures small { IfOk result (λ found. IfSome found (λ p. p.place < 2 ^ 33)) }
 {
     match text {

@@ -30,7 +30,8 @@ pub(crate) fn replace_label(
     key: &str,
     row: &mut Table,
 ) -> Result<Option<Placed>, FillEnd>
-    ensures gives { Gives result (label_of code (names_in context.entry) (labels_in context.entry) (path_of finding) (text_in key.now (table_view row.old))) }
+    ensures gives { Gives result (label_of code (names_in context.entry) (labels_in context.entry) (path_of finding)
+        (text_in key.now (table_view row.old))) }
     ensures replaced { OnOk result (IsReplaced (place_in context.entry) key.now (table_view row.old) (table_view row.new)) }
     ensures small { IfOk result (λ found. IfSome found (λ p. p.place < 2 ^ 33)) }
 {
@@ -57,7 +58,8 @@ fn fill_place(
     item: usize,
     row: &mut Table,
 ) -> Result<(), FillEnd>
-    ensures labels { Checks result (label_fault (names_in context.entry) (labels_in context.entry) list keys.Place item (text_in (codes "place") (table_view row.old))) }
+    ensures labels { Checks result (label_fault (names_in context.entry) (labels_in context.entry) list keys.Place item
+        (text_in (codes "place") (table_view row.old))) }
     ensures kept { OnOk result (IsRowKept (place_in context.entry) (codes "place" ∷ []) (table_view row.old) (table_view row.new)) }
 {
     let key = Key::Place;
@@ -75,7 +77,8 @@ pub(crate) fn fill_row(
     item: usize,
     row: &mut Table,
 ) -> Result<(), FillEnd>
-    ensures labels { Checks result (row_labels (names_in rows.entry.context) (labels_in rows.entry.context) list item (table_view row.old)) }
+    ensures labels { Checks result (row_labels (names_in rows.entry.context) (labels_in rows.entry.context) list item
+        (table_view row.old)) }
     ensures kept { OnOk result (IsRowKept (place_in rows.entry.context) (place_keys list) (table_view row.old) (table_view row.new)) }
 {
     match list {

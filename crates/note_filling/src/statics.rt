@@ -40,7 +40,8 @@ pub(crate) fn fill_static(
     item: usize,
     row: &mut Table,
 ) -> Result<(), FillEnd>
-    ensures labels { Checks result (label_fault (names_in rows.entry.context) (labels_in rows.entry.context) lists.Static keys.Place item (text_in (codes "place") (table_view row.old))) }
+    ensures labels { Checks result (label_fault (names_in rows.entry.context) (labels_in rows.entry.context) lists.Static keys.Place item
+        (text_in (codes "place") (table_view row.old))) }
     ensures kept { OnOk result (IsRowKept (place_in rows.entry.context) (codes "place" ∷ []) (table_view row.old) (table_view row.new)) }
 {
     let finding = Finding {

@@ -40,8 +40,10 @@ impl<'a> Rounds<'a> {
         requires setting { IsSetting self.now.image.now self.now.notes.now self.now.marked.now self.now.leaders.now }
         requires there { slice_get self.now.notes.now.function func ≡ Some f.now }
         requires coming { IsComing self.now.leaders.now coming.old }
-        requires entered { Entered self.now.notes.now self.now.leaders.now (state_at self.now.leaders.now coming.old.states.items) starts.old.items func }
-        ensures entered { OnOk result (Entered self.now.notes.now self.now.leaders.now (state_at self.now.leaders.now coming.new.states.items) starts.new.items (func + 1)) }
+        requires entered { Entered self.now.notes.now self.now.leaders.now (state_at self.now.leaders.now coming.old.states.items)
+            starts.old.items func }
+        ensures entered { OnOk result (Entered self.now.notes.now self.now.leaders.now
+            (state_at self.now.leaders.now coming.new.states.items) starts.new.items (func + 1)) }
         ensures coming { OnOk result (IsComing self.now.leaders.now coming.new) }
         ensures before { coming.new.before.items ≡ coming.old.before.items }
     {
@@ -72,9 +74,12 @@ impl<'a> Rounds<'a> {
         requires setting { IsSetting self.now.image.now self.now.notes.now self.now.marked.now self.now.leaders.now }
         requires within { number < length self.now.leaders.now }
         requires coming { IsComing self.now.leaders.now coming.old }
-        requires known { slice_index_or coming.old.states.items number None ≡ None → slice_index_or coming.old.before.items number None ≡ None }
-        ensures turned { OnOk result (Turned self.now.notes.now self.now.leaders.now coming.old.before.items coming.old.states.items number starts.old.items starts.new.items) }
-        ensures before { OnOk result (coming.new.before.items ≡ slice_set coming.old.before.items number (slice_index_or coming.old.states.items number None)) }
+        requires known { slice_index_or coming.old.states.items number None ≡ None →
+            slice_index_or coming.old.before.items number None ≡ None }
+        ensures turned { OnOk result (Turned self.now.notes.now self.now.leaders.now coming.old.before.items coming.old.states.items number
+            starts.old.items starts.new.items) }
+        ensures before { OnOk result (coming.new.before.items ≡
+            slice_set coming.old.before.items number (slice_index_or coming.old.states.items number None)) }
         ensures states { coming.new.states.items ≡ coming.old.states.items }
         ensures given { coming.new.given.items ≡ coming.old.given.items }
     {
@@ -102,7 +107,8 @@ impl<'a> Rounds<'a> {
         requires known { StayKnown coming.old.before.items coming.old.states.items }
         requires ascend { IsStrictlyIncreasing coming.old.given.items }
         requires none { starts.old.items ≡ [] }
-        ensures { OnOk result (Changed self.now.notes.now self.now.leaders.now coming.old coming.new starts.new.items (length self.now.leaders.now)) }
+        ensures { OnOk result (Changed self.now.notes.now self.now.leaders.now coming.old coming.new starts.new.items
+            (length self.now.leaders.now)) }
     {
         for index in 0..coming.given.len() {
             let number = coming.given[index];
@@ -121,8 +127,11 @@ impl<'a> Rounds<'a> {
         requires coming { IsComing self.now.leaders.now coming.old }
         requires before { coming.old.before.items ≡ replicate (length self.now.leaders.now) None }
         requires states { coming.old.states.items ≡ replicate (length self.now.leaders.now) None }
-        ensures starts { IfOk result (λ starts. AreStarts self.now.notes.now self.now.leaders.now (state_at self.now.leaders.now coming.new.before.items) starts.items) }
-        ensures entries { IfOk result (λ starts. AreEntries self.now.notes.now self.now.leaders.now (state_at self.now.leaders.now coming.new.before.items) (state_at self.now.leaders.now coming.new.states.items) starts.items) }
+        ensures starts { IfOk result (λ starts.
+            AreStarts self.now.notes.now self.now.leaders.now (state_at self.now.leaders.now coming.new.before.items) starts.items) }
+        ensures entries { IfOk result (λ starts.
+            AreEntries self.now.notes.now self.now.leaders.now (state_at self.now.leaders.now coming.new.before.items)
+            (state_at self.now.leaders.now coming.new.states.items) starts.items) }
         ensures coming { OnOk result (IsComing self.now.leaders.now coming.new) }
         ensures before { coming.new.before.items ≡ coming.old.before.items }
     {
@@ -148,8 +157,11 @@ impl<'a> Rounds<'a> {
         requires setting { IsSetting self.now.image.now self.now.notes.now self.now.marked.now self.now.leaders.now }
         requires coming { IsComing self.now.leaders.now coming.old }
         requires known { StayKnown coming.old.before.items coming.old.states.items }
-        ensures starts { IfOk result (λ starts. AreStarts self.now.notes.now self.now.leaders.now (state_at self.now.leaders.now coming.new.before.items) starts.items) }
-        ensures changes { IfOk result (λ starts. AreChanges (state_at self.now.leaders.now coming.old.before.items) (state_at self.now.leaders.now coming.new.before.items) starts.items) }
+        ensures starts { IfOk result (λ starts.
+            AreStarts self.now.notes.now self.now.leaders.now (state_at self.now.leaders.now coming.new.before.items) starts.items) }
+        ensures changes { IfOk result (λ starts.
+            AreChanges (state_at self.now.leaders.now coming.old.before.items) (state_at self.now.leaders.now coming.new.before.items)
+            starts.items) }
         ensures coming { OnOk result (IsComing self.now.leaders.now coming.new) }
         ensures before { OnOk result (coming.new.before.items ≡ coming.old.states.items) }
         ensures states { OnOk result (coming.new.states.items ≡ coming.old.states.items) }

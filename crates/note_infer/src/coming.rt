@@ -1,6 +1,7 @@
 //! What has come to the leaders in a round.
 
-ghost use Rattle.std.specs.Prelude.{◌≡◌, ◌<◌, ◌↔◌, ℕ, IfErr, IfNone, IfOk, IfSome, IsTrue, None, OnOk, Some, [], ◌∷◌, ◌++◌, length, replicate, slice_index, slice_index_or, slice_set};
+ghost use Rattle.std.specs.Prelude.{◌≡◌, ◌<◌, ◌↔◌, ℕ, IfErr, IfNone, IfOk, IfSome, IsTrue, None, OnOk, Some, [], ◌∷◌, ◌++◌, length};
+ghost use Rattle.std.specs.Prelude.{replicate, slice_index, slice_index_or, slice_set};
 ghost use Rattle.std.specs.List.{Contains};
 ghost use Rattle.std.specs.List.Sorted.{IsStrictlyIncreasing};
 ghost use Rattle.note_join.specs.JoinStates.{taken_in, without_fact};
@@ -180,8 +181,10 @@ impl Coming {
     ) -> Result<(), NotTaken>
         requires ascend { IsStrictlyIncreasing leaders.now }
         requires coming { IsComing leaders.now self.old }
-        ensures taken { OnOk result (Takes leaders.now f.now (given_to place s.now) (state_at leaders.now self.old.states.items) (state_at leaders.now self.new.states.items)) }
-        ensures clash { IfErr result (OnClash (ClashesAt leaders.now f.now (given_to place s.now) (state_at leaders.now self.old.states.items))) }
+        ensures taken { OnOk result (Takes leaders.now f.now (given_to place s.now) (state_at leaders.now self.old.states.items)
+            (state_at leaders.now self.new.states.items)) }
+        ensures clash { IfErr result (OnClash
+            (ClashesAt leaders.now f.now (given_to place s.now) (state_at leaders.now self.old.states.items))) }
         ensures coming { OnOk result (IsComing leaders.now self.new) }
         ensures before { self.new.before.items ≡ self.old.before.items }
     {
@@ -210,8 +213,10 @@ impl Coming {
         requires known { slice_index_or self.old.states.items number None ≡ None → slice_index_or self.old.before.items number None ≡ None }
         ensures some { IfOk result (λ next. IfSome next (λ s. slice_index_or self.old.states.items number None ≡ Some s)) }
         ensures differs { IfOk result (λ next. IfSome next (λ s. slice_index_or self.old.before.items number None ≡ Some s → ⊥)) }
-        ensures same { IfOk result (λ next. IfNone next (slice_index_or self.old.states.items number None ≡ slice_index_or self.old.before.items number None)) }
-        ensures before { OnOk result (self.new.before.items ≡ slice_set self.old.before.items number (slice_index_or self.old.states.items number None)) }
+        ensures same { IfOk result (λ next.
+            IfNone next (slice_index_or self.old.states.items number None ≡ slice_index_or self.old.before.items number None)) }
+        ensures before { OnOk result (self.new.before.items ≡
+            slice_set self.old.before.items number (slice_index_or self.old.states.items number None)) }
         ensures states { self.new.states.items ≡ self.old.states.items }
         ensures given { self.new.given.items ≡ self.old.given.items }
     {

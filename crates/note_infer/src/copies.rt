@@ -130,7 +130,8 @@ fn copy_named(
     alloc: Global,
     notes: &Notes,
 ) -> Result<(Shapes, Functions, Signatures, Names), NoMemory>
-    ensures { IfOk result (λ (shape, function, signature, methods). (shape ≡ notes.now.shape) × (function ≡ notes.now.function) × (signature ≡ notes.now.signature) × (methods ≡ notes.now.methods)) }
+    ensures { IfOk result (λ (shape, function, signature, methods).
+        (shape ≡ notes.now.shape) × (function ≡ notes.now.function) × (signature ≡ notes.now.signature) × (methods ≡ notes.now.methods)) }
 {
     let shape = copy_shapes(alloc, notes.shape.as_slice())?;
     let function = copy_functions(alloc, notes.function.as_slice())?;

@@ -140,7 +140,8 @@ pub fn infer(alloc: Global, image: &Image, notes: &Notes) -> Result<Inferred, No
     requires notes { IsNotes notes.now }
     ensures inferred { IfOk result (IsInferred image.now notes.now) }
     ensures once { IfOk result (λ answer. (other : Inferred) → IsInferred image.now notes.now other → other ≡ answer) }
-    ensures typed { IfOk result (λ answer. (points : List Point) → answer ≡ Inferred.Points points → Typed image.now (with_points notes.now points)) }
+    ensures typed { IfOk result (λ answer. (points : List Point) → answer ≡ Inferred.Points points →
+        Typed image.now (with_points notes.now points)) }
 {
     if !tables_hold(alloc, image, notes)? {
         return refused_tables(alloc, image, notes);

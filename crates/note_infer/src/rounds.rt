@@ -64,12 +64,17 @@ impl<'a> Rounds<'a> {
     ) -> Result<(), NotFound>
         requires setting { IsSetting self.now.image.now self.now.notes.now self.now.marked.now self.now.leaders.now }
         requires found { AreFound self.now.notes.now self.now.leaders.now (state_at self.now.leaders.now coming.old.before.items) }
-        requires starts { AreStarts self.now.notes.now self.now.leaders.now (state_at self.now.leaders.now coming.old.before.items) starts.now }
-        requires rest { AllRest self.now.image.now self.now.notes.now self.now.leaders.now (state_at self.now.leaders.now coming.old.before.items) (map (λ x. x.place) starts.now) }
+        requires starts { AreStarts self.now.notes.now self.now.leaders.now (state_at self.now.leaders.now coming.old.before.items)
+            starts.now }
+        requires rest { AllRest self.now.image.now self.now.notes.now self.now.leaders.now
+            (state_at self.now.leaders.now coming.old.before.items) (map (λ x. x.place) starts.now) }
         requires coming { IsComing self.now.leaders.now coming.old }
-        requires reached { Reached self.now.image.now self.now.notes.now self.now.leaders.now (state_at self.now.leaders.now coming.old.before.items) (state_at self.now.leaders.now coming.old.states.items) 0 }
-        ensures reached { OnOk result (Reached self.now.image.now self.now.notes.now self.now.leaders.now (state_at self.now.leaders.now coming.new.before.items) (state_at self.now.leaders.now coming.new.states.items) (2 ^ 22)) }
-        ensures stuck { IfErr result (IsEnd self.now.image.now self.now.notes.now self.now.leaders.now (state_at self.now.leaders.now coming.old.before.items)) }
+        requires reached { Reached self.now.image.now self.now.notes.now self.now.leaders.now
+            (state_at self.now.leaders.now coming.old.before.items) (state_at self.now.leaders.now coming.old.states.items) 0 }
+        ensures reached { OnOk result (Reached self.now.image.now self.now.notes.now self.now.leaders.now
+            (state_at self.now.leaders.now coming.new.before.items) (state_at self.now.leaders.now coming.new.states.items) (2 ^ 22)) }
+        ensures stuck { IfErr result (IsEnd self.now.image.now self.now.notes.now self.now.leaders.now
+            (state_at self.now.leaders.now coming.old.before.items)) }
         ensures coming { OnOk result (IsComing self.now.leaders.now coming.new) }
         ensures before { coming.new.before.items ≡ coming.old.before.items }
     {
@@ -99,7 +104,8 @@ impl<'a> Rounds<'a> {
     pub fn settle(&self, alloc: Global) -> Result<Vec<Option<CompactState>>, NotFound>
         requires setting { IsSetting self.now.image.now self.now.notes.now self.now.marked.now self.now.leaders.now }
         requires tables { TablesHold self.now.image.now self.now.notes.now }
-        ensures settled { IfOk result (λ states. IsSettled self.now.image.now self.now.notes.now self.now.leaders.now (state_at self.now.leaders.now states.items)) }
+        ensures settled { IfOk result (λ states.
+            IsSettled self.now.image.now self.now.notes.now self.now.leaders.now (state_at self.now.leaders.now states.items)) }
         ensures long { IfOk result (λ states. length states.items ≡ length self.now.leaders.now) }
         ensures stuck { IfErr result (IsNotFound self.now.image.now self.now.notes.now self.now.leaders.now) }
     {

@@ -100,8 +100,11 @@ impl<'a> Walk<'a> {
         requires ascend { IsStrictlyIncreasing self.now.leaders.now }
         requires coming { IsComing self.now.leaders.now coming.old }
         requires fits { FitsFall state.old fall }
-        ensures taken { OnOk result (Takes self.now.leaders.now self.now.f.now (λ l. given l next (falls (fallen state.old fall))) (state_at self.now.leaders.now coming.old.states.items) (state_at self.now.leaders.now coming.new.states.items)) }
-        ensures clash { IfErr result (OnClash (ClashesAt self.now.leaders.now self.now.f.now (λ l. given l next (falls (fallen state.old fall))) (state_at self.now.leaders.now coming.old.states.items))) }
+        ensures taken { OnOk result (Takes self.now.leaders.now self.now.f.now (λ l. given l next (falls (fallen state.old fall)))
+            (state_at self.now.leaders.now coming.old.states.items) (state_at self.now.leaders.now coming.new.states.items)) }
+        ensures clash { IfErr result (OnClash
+            (ClashesAt self.now.leaders.now self.now.f.now (λ l. given l next (falls (fallen state.old fall)))
+            (state_at self.now.leaders.now coming.old.states.items))) }
         ensures state { OnOk result (state.new ≡ fallen state.old fall) }
         ensures kept { IfErr result (λ _. state.new ≡ state.old) }
         ensures coming { OnOk result (IsComing self.now.leaders.now coming.new) }
@@ -130,8 +133,11 @@ impl<'a> Walk<'a> {
         requires ascend { IsStrictlyIncreasing self.now.leaders.now }
         requires coming { IsComing self.now.leaders.now coming.old }
         requires fits { FitsFall state.old fall }
-        ensures taken { OnOk result (Takes self.now.leaders.now self.now.f.now (λ l. given l next (falls (fallen state.old fall))) (state_at self.now.leaders.now coming.old.states.items) (state_at self.now.leaders.now coming.new.states.items)) }
-        ensures clash { IfErr result (OnClash (ClashesAt self.now.leaders.now self.now.f.now (λ l. given l next (falls (fallen state.old fall))) (state_at self.now.leaders.now coming.old.states.items))) }
+        ensures taken { OnOk result (Takes self.now.leaders.now self.now.f.now (λ l. given l next (falls (fallen state.old fall)))
+            (state_at self.now.leaders.now coming.old.states.items) (state_at self.now.leaders.now coming.new.states.items)) }
+        ensures clash { IfErr result (OnClash
+            (ClashesAt self.now.leaders.now self.now.f.now (λ l. given l next (falls (fallen state.old fall)))
+            (state_at self.now.leaders.now coming.old.states.items))) }
         ensures state { OnOk result (state.new ≡ fallen state.old fall) }
         ensures kept { IfErr result (λ _. state.new ≡ state.old) }
         ensures coming { OnOk result (IsComing self.now.leaders.now coming.new) }
@@ -155,8 +161,11 @@ impl<'a> Walk<'a> {
     ) -> Result<(), NotTaken>
         requires ascend { IsStrictlyIncreasing self.now.leaders.now }
         requires coming { IsComing self.now.leaders.now coming.old }
-        ensures taken { OnOk result (Takes self.now.leaders.now self.now.f.now (λ l. given l next (parts fall.now place jump.now)) (state_at self.now.leaders.now coming.old.states.items) (state_at self.now.leaders.now coming.new.states.items)) }
-        ensures clash { IfErr result (OnClash (ClashesAt self.now.leaders.now self.now.f.now (λ l. given l next (parts fall.now place jump.now)) (state_at self.now.leaders.now coming.old.states.items))) }
+        ensures taken { OnOk result (Takes self.now.leaders.now self.now.f.now (λ l. given l next (parts fall.now place jump.now))
+            (state_at self.now.leaders.now coming.old.states.items) (state_at self.now.leaders.now coming.new.states.items)) }
+        ensures clash { IfErr result (OnClash
+            (ClashesAt self.now.leaders.now self.now.f.now (λ l. given l next (parts fall.now place jump.now))
+            (state_at self.now.leaders.now coming.old.states.items))) }
         ensures coming { OnOk result (IsComing self.now.leaders.now coming.new) }
         ensures before { coming.new.before.items ≡ coming.old.before.items }
     {
@@ -178,8 +187,13 @@ impl<'a> Walk<'a> {
     ) -> Result<(), NotTaken>
         requires ascend { IsStrictlyIncreasing self.now.leaders.now }
         requires coming { IsComing self.now.leaders.now coming.old }
-        ensures taken { OnOk result (Takes self.now.leaders.now self.now.f.now (λ l. given l next (parts (narrow state.old (not set)) place (narrow state.old set))) (state_at self.now.leaders.now coming.old.states.items) (state_at self.now.leaders.now coming.new.states.items)) }
-        ensures clash { IfErr result (OnClash (ClashesAt self.now.leaders.now self.now.f.now (λ l. given l next (parts (narrow state.old (not set)) place (narrow state.old set))) (state_at self.now.leaders.now coming.old.states.items))) }
+        ensures taken { OnOk result (Takes self.now.leaders.now self.now.f.now
+            (λ l. given l next (parts (narrow state.old (not set)) place (narrow state.old set)))
+            (state_at self.now.leaders.now coming.old.states.items) (state_at self.now.leaders.now coming.new.states.items)) }
+        ensures clash { IfErr result (OnClash
+            (ClashesAt self.now.leaders.now self.now.f.now
+            (λ l. given l next (parts (narrow state.old (not set)) place (narrow state.old set)))
+            (state_at self.now.leaders.now coming.old.states.items))) }
         ensures state { OnOk result (state.new ≡ narrow state.old (not set)) }
         ensures kept { IfErr result (λ _. state.new ≡ state.old) }
         ensures coming { OnOk result (IsComing self.now.leaders.now coming.new) }
@@ -210,8 +224,11 @@ impl<'a> Walk<'a> {
         requires ascend { IsStrictlyIncreasing self.now.leaders.now }
         requires coming { IsComing self.now.leaders.now coming.old }
         requires fits { FitsStep state.old step }
-        ensures taken { OnOk result (Takes self.now.leaders.now self.now.f.now (λ l. given l next (successors_of state.old step)) (state_at self.now.leaders.now coming.old.states.items) (state_at self.now.leaders.now coming.new.states.items)) }
-        ensures clash { IfErr result (OnClash (ClashesAt self.now.leaders.now self.now.f.now (λ l. given l next (successors_of state.old step)) (state_at self.now.leaders.now coming.old.states.items))) }
+        ensures taken { OnOk result (Takes self.now.leaders.now self.now.f.now (λ l. given l next (successors_of state.old step))
+            (state_at self.now.leaders.now coming.old.states.items) (state_at self.now.leaders.now coming.new.states.items)) }
+        ensures clash { IfErr result (OnClash
+            (ClashesAt self.now.leaders.now self.now.f.now (λ l. given l next (successors_of state.old step))
+            (state_at self.now.leaders.now coming.old.states.items))) }
         ensures falls { IfOk result (λ falls. (successors_of state.old step).fall ≡ fall_to falls state.new) }
         ensures kept { IfErr result (λ _. state.new ≡ state.old) }
         ensures coming { OnOk result (IsComing self.now.leaders.now coming.new) }
@@ -245,8 +262,11 @@ impl<'a> Walk<'a> {
         requires ascend { IsStrictlyIncreasing self.now.leaders.now }
         requires coming { IsComing self.now.leaders.now coming.old }
         requires fits { FitsTurn state.old turn }
-        ensures taken { OnOk result (Takes self.now.leaders.now self.now.f.now (λ l. given l next (after_turn state.old turn)) (state_at self.now.leaders.now coming.old.states.items) (state_at self.now.leaders.now coming.new.states.items)) }
-        ensures clash { IfErr result (OnClash (ClashesAt self.now.leaders.now self.now.f.now (λ l. given l next (after_turn state.old turn)) (state_at self.now.leaders.now coming.old.states.items))) }
+        ensures taken { OnOk result (Takes self.now.leaders.now self.now.f.now (λ l. given l next (after_turn state.old turn))
+            (state_at self.now.leaders.now coming.old.states.items) (state_at self.now.leaders.now coming.new.states.items)) }
+        ensures clash { IfErr result (OnClash
+            (ClashesAt self.now.leaders.now self.now.f.now (λ l. given l next (after_turn state.old turn))
+            (state_at self.now.leaders.now coming.old.states.items))) }
         ensures falls { IfOk result (λ falls. (after_turn state.old turn).fall ≡ fall_to falls state.new) }
         ensures kept { IfErr result (λ _. state.new ≡ state.old) }
         ensures coming { OnOk result (IsComing self.now.leaders.now coming.new) }
@@ -272,8 +292,13 @@ impl<'a> Walk<'a> {
         requires ascend { IsStrictlyIncreasing self.now.leaders.now }
         requires coming { IsComing self.now.leaders.now coming.old }
         requires fits { FitsTurn state.now turn }
-        ensures clash { IfOk result (λ clashes. OnTrue clashes (ClashesAt self.now.leaders.now self.now.f.now (λ l. given l next (after_turn state.now turn)) (state_at self.now.leaders.now coming.old.states.items))) }
-        ensures taken { IfOk result (λ clashes. OnFalse clashes ((new : States) × Takes self.now.leaders.now self.now.f.now (λ l. given l next (after_turn state.now turn)) (state_at self.now.leaders.now coming.old.states.items) new)) }
+        ensures clash { IfOk result (λ clashes.
+            OnTrue clashes (ClashesAt self.now.leaders.now self.now.f.now (λ l. given l next (after_turn state.now turn))
+            (state_at self.now.leaders.now coming.old.states.items))) }
+        ensures taken { IfOk result (λ clashes.
+            OnFalse clashes ((new : States) ×
+            Takes self.now.leaders.now self.now.f.now (λ l. given l next (after_turn state.now turn))
+            (state_at self.now.leaders.now coming.old.states.items) new)) }
         ensures before { coming.new.before.items ≡ coming.old.before.items }
     {
         let mut after = state.copy();
@@ -298,9 +323,15 @@ impl<'a> Walk<'a> {
         requires decode { IsDecoded self.now.image.now self.now.f.now at insn.now next }
         requires within { at < self.now.f.now.end }
         requires coming { IsComing self.now.leaders.now coming.old }
-        requires reached { Reached self.now.image.now self.now.notes.now self.now.leaders.now (state_at self.now.leaders.now coming.old.before.items) (state_at self.now.leaders.now coming.old.states.items) at }
-        ensures passes { IfOk result (λ falls. Passes self.now.image.now self.now.notes.now self.now.leaders.now self.now.func self.now.f.now at next insn.now state.old (state_at self.now.leaders.now coming.old.states.items) (state_at self.now.leaders.now coming.new.states.items) (fall_to falls state.new)) }
-        ensures fails { IfErr result (OnRule (IsFirst (FailsIn self.now.image.now self.now.notes.now self.now.leaders.now (state_at self.now.leaders.now coming.old.before.items) self.now.func self.now.f.now at state.old))) }
+        requires reached { Reached self.now.image.now self.now.notes.now self.now.leaders.now
+            (state_at self.now.leaders.now coming.old.before.items) (state_at self.now.leaders.now coming.old.states.items) at }
+        ensures passes { IfOk result (λ falls.
+            Passes self.now.image.now self.now.notes.now self.now.leaders.now self.now.func self.now.f.now at next insn.now state.old
+            (state_at self.now.leaders.now coming.old.states.items) (state_at self.now.leaders.now coming.new.states.items)
+            (fall_to falls state.new)) }
+        ensures fails { IfErr result (OnRule
+            (IsFirst (FailsIn self.now.image.now self.now.notes.now self.now.leaders.now
+            (state_at self.now.leaders.now coming.old.before.items) self.now.func self.now.f.now at state.old))) }
         ensures kept { IfErr result (λ _. state.new ≡ state.old) }
         ensures coming { OnOk result (IsComing self.now.leaders.now coming.new) }
         ensures before { coming.new.before.items ≡ coming.old.before.items }
@@ -348,9 +379,15 @@ impl<'a> Walk<'a> {
         requires from { self.now.f.now.place ≤ at }
         requires within { at < self.now.f.now.end }
         requires coming { IsComing self.now.leaders.now coming.old }
-        requires reached { Reached self.now.image.now self.now.notes.now self.now.leaders.now (state_at self.now.leaders.now coming.old.before.items) (state_at self.now.leaders.now coming.old.states.items) at }
-        ensures steps { IfOk result (λ (next, falls). Steps self.now.image.now self.now.notes.now self.now.leaders.now self.now.func self.now.f.now at next state.old (state_at self.now.leaders.now coming.old.states.items) (state_at self.now.leaders.now coming.new.states.items) (fall_to falls state.new)) }
-        ensures fails { IfErr result (OnRule (IsFirst (FailsIn self.now.image.now self.now.notes.now self.now.leaders.now (state_at self.now.leaders.now coming.old.before.items) self.now.func self.now.f.now at state.old))) }
+        requires reached { Reached self.now.image.now self.now.notes.now self.now.leaders.now
+            (state_at self.now.leaders.now coming.old.before.items) (state_at self.now.leaders.now coming.old.states.items) at }
+        ensures steps { IfOk result (λ (next, falls).
+            Steps self.now.image.now self.now.notes.now self.now.leaders.now self.now.func self.now.f.now at next state.old
+            (state_at self.now.leaders.now coming.old.states.items) (state_at self.now.leaders.now coming.new.states.items)
+            (fall_to falls state.new)) }
+        ensures fails { IfErr result (OnRule
+            (IsFirst (FailsIn self.now.image.now self.now.notes.now self.now.leaders.now
+            (state_at self.now.leaders.now coming.old.before.items) self.now.func self.now.f.now at state.old))) }
         ensures kept { IfErr result (λ _. state.new ≡ state.old) }
         ensures coming { OnOk result (IsComing self.now.leaders.now coming.new) }
         ensures before { coming.new.before.items ≡ coming.old.before.items }
@@ -372,11 +409,15 @@ impl<'a> Walk<'a> {
         requires setting { IsSetting self.now.image.now self.now.notes.now self.now.marked.now self.now.leaders.now }
         requires there { slice_get self.now.notes.now.function self.now.func ≡ Some self.now.f.now }
         requires found { AreFound self.now.notes.now self.now.leaders.now (state_at self.now.leaders.now coming.old.before.items) }
-        requires begins { Begins self.now.notes.now self.now.leaders.now (state_at self.now.leaders.now coming.old.before.items) self.now.func self.now.f.now from state.old }
+        requires begins { Begins self.now.notes.now self.now.leaders.now (state_at self.now.leaders.now coming.old.before.items)
+            self.now.func self.now.f.now from state.old }
         requires coming { IsComing self.now.leaders.now coming.old }
-        requires reached { Reached self.now.image.now self.now.notes.now self.now.leaders.now (state_at self.now.leaders.now coming.old.before.items) (state_at self.now.leaders.now coming.old.states.items) from }
-        ensures passed { OnOk result (HasPassed self.now.image.now self.now.notes.now self.now.leaders.now self.now.f.now (state_at self.now.leaders.now coming.new.before.items) (state_at self.now.leaders.now coming.new.states.items) from) }
-        ensures stuck { IfErr result (IsEnd self.now.image.now self.now.notes.now self.now.leaders.now (state_at self.now.leaders.now coming.old.before.items)) }
+        requires reached { Reached self.now.image.now self.now.notes.now self.now.leaders.now
+            (state_at self.now.leaders.now coming.old.before.items) (state_at self.now.leaders.now coming.old.states.items) from }
+        ensures passed { OnOk result (HasPassed self.now.image.now self.now.notes.now self.now.leaders.now self.now.f.now
+            (state_at self.now.leaders.now coming.new.before.items) (state_at self.now.leaders.now coming.new.states.items) from) }
+        ensures stuck { IfErr result (IsEnd self.now.image.now self.now.notes.now self.now.leaders.now
+            (state_at self.now.leaders.now coming.old.before.items)) }
         ensures coming { OnOk result (IsComing self.now.leaders.now coming.new) }
         ensures before { coming.new.before.items ≡ coming.old.before.items }
     {

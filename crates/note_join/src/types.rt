@@ -2,7 +2,8 @@
 
 ghost use Rattle.std.specs.Prelude.{◌≡◌};
 ghost use Rattle.note_types.specs.BelowTests.{same_type};
-ghost use Rattle.note_join.specs.Join.{are_within, common, is_zero, join_equal, join_ints, join_null, join_pointers, join_signed, join_status, join_types, least_end, or_null};
+ghost use Rattle.note_join.specs.Join.{are_within, common, is_zero, join_equal, join_ints, join_null, join_pointers, join_signed};
+ghost use Rattle.note_join.specs.Join.{join_status, join_types, least_end, or_null};
 ghost use Rattle.note_join.specs.Laws.{AreBelow, KeepsKnown, Weakens};
 
 use note_types::Ty;

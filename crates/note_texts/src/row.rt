@@ -164,7 +164,8 @@ impl<'a> Row<'a> {
     /// `TomlFault::Kind` where something else is there; `TomlFault::Range` where there are more; no memory.
     #[tactic(auto, using(crate::proofs::Counts::count_view), unfolding(crate::specs::Lists::list_at))]
     pub fn list(self, alloc: Global, key: &str, limit: usize) -> Result<&'a [Value], NotesEnd>
-        ensures items { GivesBy (λ v. items_view v.now) result (list_at self.entry.prefix.now key.now limit (table_view self.entry.table.now)) }
+        ensures items { GivesBy (λ v. items_view v.now) result
+            (list_at self.entry.prefix.now key.now limit (table_view self.entry.table.now)) }
         ensures within { IfOk result (λ v. length v.now ≤ limit) }
     {
         let values = self.array(alloc, key)?;
@@ -187,7 +188,8 @@ impl<'a> Row<'a> {
         key: &str,
         limit: usize,
     ) -> Result<Vec<T>, NotesEnd>
-        ensures texts { GivesBy (λ v. v.items) result (texts_at T.reads_as self.entry.prefix.now key.now limit (table_view self.entry.table.now)) }
+        ensures texts { GivesBy (λ v. v.items) result
+            (texts_at T.reads_as self.entry.prefix.now key.now limit (table_view self.entry.table.now)) }
         ensures within { IfOk result (λ v. length v.items ≤ limit) }
     {
         let values = self.list(alloc, key, limit)?;
@@ -208,7 +210,8 @@ impl<'a> Row<'a> {
         limit: usize,
         beside: &str,
     ) -> Result<Vec<T>, NotesEnd>
-        ensures texts { GivesBy (λ v. v.items) result (texts_beside_at T.reads_as self.entry.prefix.now key.now limit beside.now (table_view self.entry.table.now)) }
+        ensures texts { GivesBy (λ v. v.items) result
+            (texts_beside_at T.reads_as self.entry.prefix.now key.now limit beside.now (table_view self.entry.table.now)) }
         ensures within { IfOk result (λ v. length v.items ≤ limit + 1) }
     {
         let values = self.array(alloc, key)?;
@@ -231,7 +234,8 @@ impl<'a> Row<'a> {
         key: &str,
         limit: usize,
     ) -> Result<Vec<T>, NotesEnd>
-        ensures tables { GivesBy (λ v. v.items) result (tables_at T.reads_as self.entry.prefix.now key.now limit (table_view self.entry.table.now)) }
+        ensures tables { GivesBy (λ v. v.items) result
+            (tables_at T.reads_as self.entry.prefix.now key.now limit (table_view self.entry.table.now)) }
         ensures within { IfOk result (λ v. length v.items ≤ limit) }
     {
         let values = self.list(alloc, key, limit)?;

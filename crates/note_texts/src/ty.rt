@@ -7,7 +7,8 @@ ghost use Rattle.note_texts.specs.TypeGrammar.{IsTypeText};
 ghost use Rattle.note_texts.specs.Names.{names_of};
 ghost use Rattle.note_texts.specs.Numbers.{number_in};
 ghost use Rattle.note_texts.specs.Ranges.{pair_of};
-ghost use Rattle.note_texts.specs.TypeTexts.{granting_type, int_of, marked_type, number_type, offset_of, plain_type, pointer_of, scaled_of, type_of, word_type};
+ghost use Rattle.note_texts.specs.TypeTexts.{granting_type, int_of, marked_type, number_type, offset_of, plain_type, pointer_of, scaled_of};
+ghost use Rattle.note_texts.specs.TypeTexts.{type_of, word_type};
 ghost use Rattle.note_texts.specs.declared.ty.TypeText.TheVariants.{Lent, Lin, Local, Method, Saved, ThunkAt};
 ghost use Rattle.ebc_base.specs.Names.{name_of};
 

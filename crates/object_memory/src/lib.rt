@@ -30,7 +30,8 @@
 //!   lies in the region (`within`), and no other address has it (`alone`).
 #![tactic(auto)]
 
-ghost use Rattle.std.specs.Prelude.{◌≡◌, ℕ, ◌+◌, ◌*◌, ◌^◌, ◌<◌, ◌≤◌, ◌↔◌, [], length, slice_index, true, false, Err, IfOk, OnOk, OnErr, IfSome, IfNone, Some, None};
+ghost use Rattle.std.specs.Prelude.{◌≡◌, ℕ, ◌+◌, ◌*◌, ◌^◌, ◌<◌, ◌≤◌, ◌↔◌, [], length, slice_index, true, false, Err, IfOk, OnOk, OnErr};
+ghost use Rattle.std.specs.Prelude.{IfSome, IfNone, Some, None};
 ghost use Rattle.std.specs.Bool.{OnTrue, OnFalse};
 ghost use Rattle.ebc_width.specs.Width.{IsWidth};
 ghost use Rattle.ebc_width.specs.Bytes.{IsAccess, put, overlaid};
@@ -98,7 +99,8 @@ fn padded_size(size: u64) -> u64
 impl<const W: usize> ObjMem<W> {
     ghost use Rattle.object_memory.specs.Layout.{IsFound};
     ghost use Rattle.ebc_width.specs.Ranges.{holds};
-    ghost use Rattle.object_memory.specs.Memory.{IsMemory, ranges, byte_at, held_number, memory_after, memory_filled, rest_from, offset_of, IsOwner, used, next_base, IsFull, placed};
+    ghost use Rattle.object_memory.specs.Memory.{IsMemory, ranges, byte_at, held_number, memory_after, memory_filled, rest_from, offset_of};
+    ghost use Rattle.object_memory.specs.Memory.{IsOwner, used, next_base, IsFull, placed};
 
     /// An empty memory for `limit` bytes, with the padding and gaps of objects, and for as many
     /// objects. All memory that it will use is reserved here: a quarter more than `limit`, and what

@@ -16,10 +16,12 @@ ghost use Rattle.note_types.specs.declared.ending.Ending.TheVariants.{Running};
 ghost use Rattle.note_types.specs.declared.seen.Seen.{Seen};
 ghost use Rattle.pair_model.specs.PairReports.{own_placements};
 ghost use Rattle.pair_model.specs.PairRuns.{pair_spot, pair_step_at, side_at, sides_at};
-ghost use Rattle.pair_model.specs.Pairs.{CallReturned, CallRuns, CallTaken, CallerRuns, OfB, PairState, PairWorld, ProviderRuns, running_side};
+ghost use Rattle.pair_model.specs.Pairs.{CallReturned, CallRuns, CallTaken, CallerRuns, OfB, PairState, PairWorld, ProviderRuns};
+ghost use Rattle.pair_model.specs.Pairs.{running_side};
 ghost use Rattle.pair_model.specs.Rules.{call_step, caller_step, enter_step, function_step, provider_step, reply_step, with_a, with_b};
 ghost use Rattle.twin_run.specs.Runner.{IsAt, Runs};
-ghost use Rattle.pair_host.specs.PairRunner.{ArePaired, CanBeCalled, HasPairRoom, IsDriver, IsPair, PairRuns, images_for, pair_world, side_of, stage_of, stepped, world_for};
+ghost use Rattle.pair_host.specs.PairRunner.{ArePaired, CanBeCalled, HasPairRoom, IsDriver, IsPair, PairRuns, images_for, pair_world};
+ghost use Rattle.pair_host.specs.PairRunner.{side_of, stage_of, stepped, world_for};
 ghost use Rattle.pair_model.specs.declared.bind.Bind.{Bind};
 ghost use Rattle.pair_host.specs.PairReported.{own_pair_run};
 
@@ -58,7 +60,9 @@ pub fn start<const W: usize>(
     requires width { IsWidth W }
     requires caller { IsDriver a.now }
     requires provider { IsDriver b.now }
-    ensures start { (binds : List Bind) → IfOk result (λ x. IsPair W (pair_world a.now b.now binds) x (own_pair_run W (images_for a.now b.now) (pair_world a.now b.now binds) 0)) }
+    ensures start { (binds : List Bind) →
+        IfOk result (λ x.
+        IsPair W (pair_world a.now b.now binds) x (own_pair_run W (images_for a.now b.now) (pair_world a.now b.now binds) 0)) }
     ensures room { IfOk result (λ x. HasPairRoom x events) }
 {
     let caller = twin_run::start::<W>(alloc, a.image, a.notes, a.script)?;
@@ -102,7 +106,9 @@ impl<const W: usize> PairRunner<W> {
         requires paired { ArePaired a.now b.now binds.now }
         requires runs { PairRuns W a.now b.now binds.now self.old }
         requires room { HasPairRoom self.old 1 }
-        ensures step { (p : PairState RunState) → IsPair W (pair_world a.now b.now binds.now) self.old p → IsPair W (pair_world a.now b.now binds.now) self.new (pair_step_at W (pair_world a.now b.now binds.now) (own_placements W (pair_world a.now b.now binds.now)) p) }
+        ensures step { (p : PairState RunState) → IsPair W (pair_world a.now b.now binds.now) self.old p →
+            IsPair W (pair_world a.now b.now binds.now) self.new
+            (pair_step_at W (pair_world a.now b.now binds.now) (own_placements W (pair_world a.now b.now binds.now)) p) }
         ensures room { (n : ℕ) → HasPairRoom self.old (n + 1) → HasPairRoom self.new n }
     {
         if let Ending::Running = self.ending {
@@ -117,7 +123,9 @@ impl<const W: usize> PairRunner<W> {
         requires runs { PairRuns W a.now b.now binds.now self.old }
         requires on { self.old.ending ≡ Running }
         requires room { HasPairRoom self.old 1 }
-        ensures step { (p : PairState RunState) → IsPair W (pair_world a.now b.now binds.now) self.old p → IsPair W (pair_world a.now b.now binds.now) self.new (pair_step_at W (pair_world a.now b.now binds.now) (own_placements W (pair_world a.now b.now binds.now)) p) }
+        ensures step { (p : PairState RunState) → IsPair W (pair_world a.now b.now binds.now) self.old p →
+            IsPair W (pair_world a.now b.now binds.now) self.new
+            (pair_step_at W (pair_world a.now b.now binds.now) (own_placements W (pair_world a.now b.now binds.now)) p) }
         ensures room { (n : ℕ) → HasPairRoom self.old (n + 1) → HasPairRoom self.new n }
     {
         match &self.stage {
@@ -148,7 +156,10 @@ impl<const W: usize> PairRunner<W> {
         requires width { IsWidth W }
         requires runs { Runs W a.now.notes.now a.now.script.now self.old.a }
         requires room { HasPairRoom self.old 1 }
-        ensures step { (world : PairWorld) (p : PairState RunState) → world.a ≡ world_for a.now → p.stage ≡ CallerRuns → p.ending ≡ Running → IsPair W world self.old p → IsPair W world self.new (with_a (side_at W world.a (own_placement W world.a)) p (run_step W world.a (own_placement W world.a) p.a)) }
+        ensures step { (world : PairWorld) (p : PairState RunState) → world.a ≡ world_for a.now → p.stage ≡ CallerRuns →
+            p.ending ≡ Running → IsPair W world self.old p →
+            IsPair W world self.new
+            (with_a (side_at W world.a (own_placement W world.a)) p (run_step W world.a (own_placement W world.a) p.a)) }
         ensures room { (n : ℕ) → HasPairRoom self.old (n + 1) → HasPairRoom self.new n }
     {
         let told = self.a.trace().len();
@@ -162,7 +173,10 @@ impl<const W: usize> PairRunner<W> {
         requires width { IsWidth W }
         requires runs { Runs W b.now.notes.now b.now.script.now self.old.b }
         requires room { HasPairRoom self.old 1 }
-        ensures step { (world : PairWorld) (p : PairState RunState) → world.b ≡ world_for b.now → running_side p.stage ≡ OfB → p.ending ≡ Running → IsPair W world self.old p → IsPair W world self.new (with_b (side_at W world.b (own_placement W world.b)) p (run_step W world.b (own_placement W world.b) p.b)) }
+        ensures step { (world : PairWorld) (p : PairState RunState) → world.b ≡ world_for b.now → running_side p.stage ≡ OfB →
+            p.ending ≡ Running → IsPair W world self.old p →
+            IsPair W world self.new
+            (with_b (side_at W world.b (own_placement W world.b)) p (run_step W world.b (own_placement W world.b) p.b)) }
         ensures room { (n : ℕ) → HasPairRoom self.old (n + 1) → HasPairRoom self.new n }
     {
         let told = self.b.trace().len();
@@ -177,7 +191,9 @@ impl<const W: usize> PairRunner<W> {
         requires runs { Runs W b.now.notes.now b.now.script.now self.old.b }
         requires kept { IsOf W b.now.notes.now self.old.b.host.places }
         requires room { HasPairRoom self.old 1 }
-        ensures step { (world : PairWorld) (p : PairState RunState) → world.b ≡ world_for b.now → p.stage ≡ ProviderRuns → p.ending ≡ Running → IsPair W world self.old p → IsPair W world self.new (stepped (provider_step (sides_at W world (own_placements W world)) p) p) }
+        ensures step { (world : PairWorld) (p : PairState RunState) → world.b ≡ world_for b.now → p.stage ≡ ProviderRuns →
+            p.ending ≡ Running → IsPair W world self.old p →
+            IsPair W world self.new (stepped (provider_step (sides_at W world (own_placements W world)) p) p) }
         ensures room { (n : ℕ) → HasPairRoom self.old (n + 1) → HasPairRoom self.new n }
     {
         match self.b.leave_first(b.notes) {
@@ -201,7 +217,10 @@ impl<const W: usize> PairRunner<W> {
         requires stage { self.old.stage ≡ Stage.CallerRuns }
         requires on { self.old.ending ≡ Running }
         requires room { HasPairRoom self.old 1 }
-        ensures step { (p : PairState RunState) → IsPair W (pair_world a.now b.now binds.now) self.old p → IsPair W (pair_world a.now b.now binds.now) self.new (stepped (caller_step (pair_world a.now b.now binds.now) (sides_at W (pair_world a.now b.now binds.now) (own_placements W (pair_world a.now b.now binds.now))) p) p) }
+        ensures step { (p : PairState RunState) → IsPair W (pair_world a.now b.now binds.now) self.old p →
+            IsPair W (pair_world a.now b.now binds.now) self.new
+            (stepped (caller_step (pair_world a.now b.now binds.now)
+            (sides_at W (pair_world a.now b.now binds.now) (own_placements W (pair_world a.now b.now binds.now))) p) p) }
         ensures room { (n : ℕ) → HasPairRoom self.old (n + 1) → HasPairRoom self.new n }
     {
         match self.a.asked_call() {
@@ -224,7 +243,11 @@ impl<const W: usize> PairRunner<W> {
         requires asked { self.old.a.asked ≡ Some asked.now }
         requires called { CanBeCalled a.now.notes.now b.now.notes.now asked.now.place (bound_call_of call.now) }
         requires room { HasPairRoom self.old 1 }
-        ensures step { (world : PairWorld) (p : PairState RunState) → world.a ≡ world_for a.now → world.b ≡ world_for b.now → p.stage ≡ CallerRuns → p.ending ≡ Running → IsPair W world self.old p → IsPair W world self.new (call_step world (sides_at W world (own_placements W world)) p asked.now.place (asking_at W world.a (own_placement W world.a) p.a asked.now.place asked.now.target) (bound_call_of call.now)) }
+        ensures step { (world : PairWorld) (p : PairState RunState) → world.a ≡ world_for a.now → world.b ≡ world_for b.now →
+            p.stage ≡ CallerRuns → p.ending ≡ Running → IsPair W world self.old p →
+            IsPair W world self.new
+            (call_step world (sides_at W world (own_placements W world)) p asked.now.place
+            (asking_at W world.a (own_placement W world.a) p.a asked.now.place asked.now.target) (bound_call_of call.now)) }
         ensures room { (n : ℕ) → HasPairRoom self.old (n + 1) → HasPairRoom self.new n }
     {
         match self.a.bound_call(a.notes, asked) {
@@ -268,7 +291,10 @@ impl<const W: usize> PairRunner<W> {
         requires outside { self.old.b.frames ≡ [] }
         requires settled { self.old.b.asked ≡ None }
         requires room { HasPairRoom self.old 1 }
-        ensures step { (world : PairWorld) (p : PairState RunState) → world.b ≡ world_for b.now → p.stage ≡ CallTaken signature function (map (λ (s : Seen). s.value) args.now) → p.ending ≡ Running → IsPair W world self.old p → IsPair W world self.new (enter_step (sides_at W world (own_placements W world)) p signature function (map (λ (s : Seen). s.value) args.now)) }
+        ensures step { (world : PairWorld) (p : PairState RunState) → world.b ≡ world_for b.now →
+            p.stage ≡ CallTaken signature function (map (λ (s : Seen). s.value) args.now) → p.ending ≡ Running → IsPair W world self.old p →
+            IsPair W world self.new
+            (enter_step (sides_at W world (own_placements W world)) p signature function (map (λ (s : Seen). s.value) args.now)) }
         ensures room { (n : ℕ) → HasPairRoom self.old (n + 1) → HasPairRoom self.new n }
     {
         let event = Event::Entered {
@@ -289,7 +315,9 @@ impl<const W: usize> PairRunner<W> {
         requires runs { Runs W b.now.notes.now b.now.script.now self.old.b }
         requires kept { IsOf W b.now.notes.now self.old.b.host.places }
         requires room { HasPairRoom self.old 1 }
-        ensures step { (world : PairWorld) (p : PairState RunState) → world.b ≡ world_for b.now → p.stage ≡ CallRuns signature → p.ending ≡ Running → IsPair W world self.old p → IsPair W world self.new (stepped (function_step (sides_at W world (own_placements W world)) p signature) p) }
+        ensures step { (world : PairWorld) (p : PairState RunState) → world.b ≡ world_for b.now → p.stage ≡ CallRuns signature →
+            p.ending ≡ Running → IsPair W world self.old p →
+            IsPair W world self.new (stepped (function_step (sides_at W world (own_placements W world)) p signature) p) }
         ensures room { (n : ℕ) → HasPairRoom self.old (n + 1) → HasPairRoom self.new n }
     {
         match self.b.leave_first(b.notes) {
@@ -314,7 +342,9 @@ impl<const W: usize> PairRunner<W> {
         requires kept { IsOf W a.now.notes.now self.old.a.host.places }
         requires inside { 0 < length self.old.a.frames }
         requires room { HasPairRoom self.old 1 }
-        ensures step { (world : PairWorld) (p : PairState RunState) → world.a ≡ world_for a.now → p.stage ≡ CallReturned signature value.now → p.ending ≡ Running → IsPair W world self.old p → IsPair W world self.new (reply_step world (sides_at W world (own_placements W world)) p signature value.now) }
+        ensures step { (world : PairWorld) (p : PairState RunState) → world.a ≡ world_for a.now →
+            p.stage ≡ CallReturned signature value.now → p.ending ≡ Running → IsPair W world self.old p →
+            IsPair W world self.new (reply_step world (sides_at W world (own_placements W world)) p signature value.now) }
         ensures room { (n : ℕ) → HasPairRoom self.old (n + 1) → HasPairRoom self.new n }
     {
         match self.a.answer(a.notes, signature, value) {
@@ -349,7 +379,8 @@ impl<const W: usize> PairRunner<W> {
 
     /// Where the image stands that runs.
     pub fn spot(&self) -> Spot
-        ensures { (world : PairWorld) (p : PairState RunState) → IsPair W world self.now p → result ≡ pair_spot world (own_placements W world) p }
+        ensures { (world : PairWorld) (p : PairState RunState) → IsPair W world self.now p →
+            result ≡ pair_spot world (own_placements W world) p }
     {
         match self.side() {
             Side::A => self.a.spot(),

@@ -125,7 +125,8 @@ fn run_pair(
     ensures at4 { IfOk result (λ r. IsPairReport 4 (images_for a.now b.now) (pair_world a.now b.now binds.now) steps r.at4) }
     ensures at8 { IfOk result (λ r. IsPairReport 8 (images_for a.now b.now) (pair_world a.now b.now binds.now) steps r.at8) }
     ensures differ { IfOk result (λ r. PairsDifferAt (images_for a.now b.now) (pair_world a.now b.now binds.now) steps r.differ) }
-    ensures same_where_typed { Typed a.now.image.now a.now.notes.now → Typed b.now.image.now b.now.notes.now → IfOk result (λ r. r.differ ≡ None) }
+    ensures same_where_typed { Typed a.now.image.now a.now.notes.now → Typed b.now.image.now b.now.notes.now →
+        IfOk result (λ r. r.differ ≡ None) }
     ensures raised_where_typed { Typed a.now.image.now a.now.notes.now → Typed b.now.image.now b.now.notes.now
         → IfOk result (λ r. RaisesOnlyDivideError r.at4.ending × RaisesOnlyDivideError r.at8.ending) }
 {
@@ -176,9 +177,18 @@ pub fn pair(
     requires notes_b { IsNotes notes_b.now }
     requires script_b { IsScript notes_b.now script_b.now }
     requires agree { AllAgree notes_a.now notes_b.now binds.now }
-    ensures at4 { IfOk result (λ r. IsPairReport 4 (both_images image_a.now image_b.now) (pair_about (world_of image_a.now notes_a.now script_a.now) (world_of image_b.now notes_b.now script_b.now) binds.now) steps r.at4) }
-    ensures at8 { IfOk result (λ r. IsPairReport 8 (both_images image_a.now image_b.now) (pair_about (world_of image_a.now notes_a.now script_a.now) (world_of image_b.now notes_b.now script_b.now) binds.now) steps r.at8) }
-    ensures differ { IfOk result (λ r. PairsDifferAt (both_images image_a.now image_b.now) (pair_about (world_of image_a.now notes_a.now script_a.now) (world_of image_b.now notes_b.now script_b.now) binds.now) steps r.differ) }
+    ensures at4 { IfOk result (λ r.
+        IsPairReport 4 (both_images image_a.now image_b.now)
+        (pair_about (world_of image_a.now notes_a.now script_a.now) (world_of image_b.now notes_b.now script_b.now) binds.now) steps
+        r.at4) }
+    ensures at8 { IfOk result (λ r.
+        IsPairReport 8 (both_images image_a.now image_b.now)
+        (pair_about (world_of image_a.now notes_a.now script_a.now) (world_of image_b.now notes_b.now script_b.now) binds.now) steps
+        r.at8) }
+    ensures differ { IfOk result (λ r.
+        PairsDifferAt (both_images image_a.now image_b.now)
+        (pair_about (world_of image_a.now notes_a.now script_a.now) (world_of image_b.now notes_b.now script_b.now) binds.now) steps
+        r.differ) }
     ensures same_where_typed { Typed image_a.now notes_a.now → Typed image_b.now notes_b.now → IfOk result (λ r. r.differ ≡ None) }
     ensures raised_where_typed { Typed image_a.now notes_a.now → Typed image_b.now notes_b.now
         → IfOk result (λ r. RaisesOnlyDivideError r.at4.ending × RaisesOnlyDivideError r.at8.ending) }

@@ -2,8 +2,11 @@
 
 ghost use Rattle.std.specs.Prelude.{◌≡◌, ℕ, ◌+◌, ◌-◌, ◌*◌, ◌<◌, ◌≤◌, ◌^◌, ◌++◌, List, length, true, None, IfOk, IfSome, OnOk};
 ghost use Rattle.std.specs.Bool.{OnTrue};
-ghost use Rattle.pe_image.specs.Conditions.{align_conditions, entry_point_conditions, fit_conditions, fits, header_conditions, is_aligned, most, order_conditions, stub_conditions};
-ghost use Rattle.pe_image.specs.Headers.{Ascends, HasHeaders, directory, directory_count, directory_place, directory_size, end_of, entry_point, image_base, image_size, in_section, machine, magic, optional, optional_size, section_alignment, section_at, section_count, section_table, signature, subsystem};
+ghost use Rattle.pe_image.specs.Conditions.{align_conditions, entry_point_conditions, fit_conditions, fits, header_conditions, is_aligned};
+ghost use Rattle.pe_image.specs.Conditions.{most, order_conditions, stub_conditions};
+ghost use Rattle.pe_image.specs.Headers.{Ascends, HasHeaders, directory, directory_count, directory_place, directory_size, end_of};
+ghost use Rattle.pe_image.specs.Headers.{entry_point, image_base, image_size, in_section, machine, magic, optional, optional_size};
+ghost use Rattle.pe_image.specs.Headers.{section_alignment, section_at, section_count, section_table, signature, subsystem};
 ghost use Rattle.pe_image.specs.Images.{Checks};
 ghost use Rattle.pe_image.specs.Relocations.{has_blocks, has_directory, home, span_in};
 ghost use Rattle.pe_image.specs.Walks.{IsNext, IsSound};
@@ -274,7 +277,8 @@ impl<'a> Headers<'a> {
     #[tactic(auto, using(crate::proofs::Sections::no_section, crate::proofs::Sections::first_unfit, crate::proofs::Sections::all_fit))]
     pub fn fit(&self) -> Result<(), ImageEnd>
         ensures checks { Checks result (fit_conditions self.now) }
-        ensures raw { OnOk result ((i : ℕ) → i < section_count self.now → (section_at self.now i).raw_at + (section_at self.now i).raw_size ≤ length self.now) }
+        ensures raw { OnOk result ((i : ℕ) → i < section_count self.now →
+            (section_at self.now i).raw_at + (section_at self.now i).raw_size ≤ length self.now) }
         ensures ends { OnOk result ((i : ℕ) → i < section_count self.now → end_of (section_at self.now i) ≤ most) }
     {
         if self.count == 0 {

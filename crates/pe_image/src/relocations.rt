@@ -1,6 +1,7 @@
 //! Base relocations (PE/COFF specification, "The .reloc Section (Image Only)").
 
-ghost use Rattle.std.specs.Prelude.{◌≡◌, ℕ, ◌+◌, ◌-◌, ◌*◌, ◌/◌, ◌<◌, ◌≤◌, ◌^◌, ◌++◌, ◌&&◌, List, [], ◌∷◌, length, true, false, IfOk, OnOk, IfSome, IfNone};
+ghost use Rattle.std.specs.Prelude.{◌≡◌, ℕ, ◌+◌, ◌-◌, ◌*◌, ◌/◌, ◌<◌, ◌≤◌, ◌^◌, ◌++◌, ◌&&◌, List, [], ◌∷◌, length, true, false, IfOk, OnOk};
+ghost use Rattle.std.specs.Prelude.{IfSome, IfNone};
 ghost use Rattle.std.specs.Bool.{OnTrue};
 ghost use Rattle.pe_image.specs.Conditions.{block_conditions, entry_conditions, is_entry, is_past, need, relocation_conditions};
 ghost use Rattle.pe_image.specs.Headers.{end_of, in_section, section_at, section_count};
@@ -143,7 +144,8 @@ impl Found {
         requires sound { IsSound headers.now }
         requires passed { HasPassed headers.now self.old.places.items self.old.floor self.old.room }
         requires place { place < 2 ^ 33 }
-        ensures checks { Checks result (need (is_past self.old.places.items place && in_section headers.now place 8) ImageFault.Reloc at ∷ []) }
+        ensures checks { Checks result (need (is_past self.old.places.items place && in_section headers.now place 8) ImageFault.Reloc at ∷
+            []) }
         ensures places { OnOk result (self.new.places.items ≡ self.old.places.items ++ place ∷ []) }
         ensures passed { OnOk result (HasPassed headers.now self.new.places.items self.new.floor self.new.room) }
     {

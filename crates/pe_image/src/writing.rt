@@ -1,8 +1,11 @@
 //! The writing of an image file, in the linker's layout.
 
-ghost use Rattle.std.specs.Prelude.{◌≡◌, ◌+◌, ◌-◌, ◌*◌, ◌/◌, ◌<◌, ◌≤◌, ◌^◌, ◌++◌, ℕ, List, length, Ok, IfOk, OnOk, All, AllPairs, sum_by, nat_eq};
+ghost use Rattle.std.specs.Prelude.{◌≡◌, ◌+◌, ◌-◌, ◌*◌, ◌/◌, ◌<◌, ◌≤◌, ◌^◌, ◌++◌, ℕ, List, length, Ok, IfOk, OnOk, All, AllPairs, sum_by};
+ghost use Rattle.std.specs.Prelude.{nat_eq};
 ghost use Rattle.std.specs.List.{flat_map, prefix_len};
-ghost use Rattle.pe_image.specs.Files.{block_bytes, entry_bytes, on_page, page_count, coff_bytes, directories_bytes, directory_bytes, file_of, file_sections, front_bytes, next_place, raw_bytes, raw_size, reloc_bytes, reloc_section, reloc_sections, rounded, section_header, section_headers, standard_bytes, stub_bytes, windows_bytes};
+ghost use Rattle.pe_image.specs.Files.{block_bytes, entry_bytes, on_page, page_count, coff_bytes, directories_bytes, directory_bytes};
+ghost use Rattle.pe_image.specs.Files.{file_of, file_sections, front_bytes, next_place, raw_bytes, raw_size, reloc_bytes, reloc_section};
+ghost use Rattle.pe_image.specs.Files.{reloc_sections, rounded, section_header, section_headers, standard_bytes, stub_bytes, windows_bytes};
 ghost use Rattle.pe_image.specs.Conditions.{most};
 ghost use Rattle.pe_image.specs.Images.{IsBelow, image_of};
 ghost use Rattle.pe_image.specs.Linked.{IsLinked, IsSmall};

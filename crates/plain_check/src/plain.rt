@@ -1,7 +1,8 @@
 //! The plain check of raw code.
 ghost use Rattle.std.specs.Prelude.{◌≡◌, ◌≢◌, ◌+◌, ◌<◌, ◌≤◌, ◌^◌, ◌↔◌, ℕ, length, drop, IfOk, vec_len, Some, None};
 ghost use Rattle.note_types.specs.declared.rule.RuleName.{RuleName};
-ghost use Rattle.plain_check.specs.PlainChecks.{plain_verdict, first_refusal, places, reached, starts, is_plain, is_register, lands, passes, falls_through, instruction_rule, marked, after_place};
+ghost use Rattle.plain_check.specs.PlainChecks.{plain_verdict, first_refusal, places, reached, starts, is_plain, is_register, lands};
+ghost use Rattle.plain_check.specs.PlainChecks.{passes, falls_through, instruction_rule, marked, after_place};
 ghost use Rattle.plain_check.specs.PlainRules.{IsNeutral, IsRefused};
 ghost use Rattle.plain_check.specs.PlainRuns.{RunsAlike};
 
@@ -87,7 +88,8 @@ fn first_refusal(code: &[u8], marks: &[bool]) -> Verdict
 fn rule_at(code: &[u8], at: usize, marks: &[bool]) -> Result<usize, RuleName>
     requires within { at < length code.now }
     requires size { length code.now < 2 ^ 32 }
-    ensures judged { first_refusal (marked marks.now) (length code.now) (reached at 0 (drop at code.now)) ≡ after_place (marked marks.now) code.now at result }
+    ensures judged { first_refusal (marked marks.now) (length code.now) (reached at 0 (drop at code.now)) ≡
+        after_place (marked marks.now) code.now at result }
     ensures next { IfOk result (λ next. next ≤ length code.now) }
     ensures later { IfOk result (λ next. at < next) }
 {

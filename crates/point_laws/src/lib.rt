@@ -23,7 +23,8 @@
 //! point, so it is not printed.
 #![tactic(auto)]
 
-ghost use Rattle.point_laws.specs.PrintedPoints.{PrintedPointsAreAccepted, PrintedPointsAreRead, PrintedPointsAreTables, PrintedPointsStand};
+ghost use Rattle.point_laws.specs.PrintedPoints.{PrintedPointsAreAccepted, PrintedPointsAreRead, PrintedPointsAreTables};
+ghost use Rattle.point_laws.specs.PrintedPoints.{PrintedPointsStand};
 
 /// Under notes that a text stands for, what is printed of points of these notes (`points_text` of `point_texts`) is a document of TOML,
 /// and the points in it, read as those of notes are, are the points. Where these ascend by place, the reader accepts them in place of

@@ -1,7 +1,8 @@
 //! The texts of types.
 ghost use Rattle.std.specs.Prelude.{◌≡◌, ◌++◌, IfOk, string_bytes};
 ghost use Rattle.note_texts.specs.TypeGrammar.{grants_text, range_text};
-ghost use Rattle.point_texts.specs.PrintedTypes.{divisor_text, field_names, int_text, is_whole, offset_text, pointer_text, ranged_text, type_text};
+ghost use Rattle.point_texts.specs.PrintedTypes.{divisor_text, field_names, int_text, is_whole, offset_text, pointer_text, ranged_text};
+ghost use Rattle.point_texts.specs.PrintedTypes.{type_text};
 
 use crate::cell::{cell_text, counted_text, mark_of};
 use crate::names::{field_name, field_names, method_name, shape_name};

@@ -5,7 +5,8 @@ ghost use Rattle.note_types.specs.declared.fault.TomlFault.TheVariants.{Range};
 ghost use Rattle.ebc_base.specs.Steps.{passes};
 ghost use Rattle.host_model.specs.HostPlans.{function_params, signature_params};
 ghost use Rattle.script_draft.specs.Lists.{all_pass};
-ghost use Rattle.protocol_script.specs.Conditions.{args_fit, call_args, conditions, has_args, is_later, notify_ascends, notify_at, notify_conditions, notify_few, waits_for};
+ghost use Rattle.protocol_script.specs.Conditions.{args_fit, call_args, conditions, has_args, is_later, notify_ascends, notify_at};
+ghost use Rattle.protocol_script.specs.Conditions.{notify_conditions, notify_few, waits_for};
 
 use crate::limits::keep_limits;
 use crate::objects::{all_objects, objects_at_start};

@@ -102,7 +102,8 @@ impl Load {
         ensures room { IfSome result (λ load. load.room ≡ self.room + sum_by (room_of notes.now) objects.now) }
         ensures objects { IfSome result (λ load. load.objects ≡ self.objects + length objects.now) }
         ensures within { IfSome result (λ load. (load.room ≤ 2 ^ 23) × (load.objects ≤ 4096)) }
-        ensures past { IfNone result ((2 ^ 23 < self.room + sum_by (room_of notes.now) objects.now) ⊎ (4096 < self.objects + length objects.now)) }
+        ensures past { IfNone result ((2 ^ 23 < self.room + sum_by (room_of notes.now) objects.now) ⊎
+            (4096 < self.objects + length objects.now)) }
     {
         let mut load = self;
         for object in objects {
@@ -159,7 +160,8 @@ fn made_limit(
 ) -> Result<Load, NotesEnd>
     requires within { index < length script.now.call }
     requires load { IsLoad notes.now (placed_objects script.now index) load }
-    ensures limit { GivesBy (λ _. tt) result (passes (have_room notes.now (placed_objects script.now (index + 1))) (Range (row_prefix (codes "call") index ++ codes "make"))) }
+    ensures limit { GivesBy (λ _. tt) result
+        (passes (have_room notes.now (placed_objects script.now (index + 1))) (Range (row_prefix (codes "call") index ++ codes "make"))) }
     ensures load { IfOk result (IsLoad notes.now (placed_objects script.now (index + 1))) }
 {
     let call = &script.call.as_slice()[index];

@@ -7,7 +7,9 @@ ghost use Rattle.note_types.specs.declared.notes.Notes.{Notes as NotesRecord};
 ghost use Rattle.note_types.specs.declared.shape.Field.{Field as FieldRecord};
 ghost use Rattle.note_texts.specs.Keys.{row_prefix};
 ghost use Rattle.script_draft.specs.Lists.{all_of};
-ghost use Rattle.protocol_script.specs.Resolved.{field_in, resolved, resolved_argument, resolved_call, resolved_calls, resolved_callback, resolved_cell, resolved_notifications, resolved_notify, resolved_object, resolved_objects, resolved_out, resolved_reply, resolved_value, resolved_write};
+ghost use Rattle.protocol_script.specs.Resolved.{field_in, resolved, resolved_argument, resolved_call, resolved_calls, resolved_callback};
+ghost use Rattle.protocol_script.specs.Resolved.{resolved_cell, resolved_notifications, resolved_notify, resolved_object, resolved_objects};
+ghost use Rattle.protocol_script.specs.Resolved.{resolved_out, resolved_reply, resolved_value, resolved_write};
 
 use crate::numbers::{
     field_number, function_number, method_number, shape_number, signature_number,
@@ -222,7 +224,8 @@ fn all_of<T: Resolve>(
     scope: Scope,
     texts: &[T],
 ) -> Result<Option<Sequence<T::Record>>, AllocError>
-    ensures { IfOk result (λ values. values ≡ all_of (T.resolved scope.entry.notes.now scope.entry.fields.now scope.entry.shapes.now) texts.now) }
+    ensures { IfOk result (λ values.
+        values ≡ all_of (T.resolved scope.entry.notes.now scope.entry.fields.now scope.entry.shapes.now) texts.now) }
 {
     let mut values = Vec::new(alloc);
     for text in texts {
@@ -257,7 +260,8 @@ fn all_known<T: Resolve>(
     key: &str,
     texts: &[T],
 ) -> Result<Sequence<T::Record>, NotesEnd>
-    ensures { Gives result (or_else (NameFault (prefix.now ++ key.now)) (all_of (T.resolved scope.entry.notes.now scope.entry.fields.now scope.entry.shapes.now) texts.now)) }
+    ensures { Gives result (or_else (NameFault (prefix.now ++ key.now))
+        (all_of (T.resolved scope.entry.notes.now scope.entry.fields.now scope.entry.shapes.now) texts.now)) }
 {
     let values = all_of(alloc, scope, texts)?;
     known(alloc, prefix, key, values)

@@ -7,7 +7,8 @@ ghost use Rattle.note_types.specs.declared.fault.NotesEnd.TheVariants.{Fault};
 ghost use Rattle.note_types.specs.declared.fault.TomlFault.TheVariants.{Range};
 ghost use Rattle.ebc_base.specs.Steps.{passes};
 ghost use Rattle.host_model.specs.Objects.{made_objects};
-ghost use Rattle.protocol_script.specs.Conditions.{all_tables_pass, call_passes, calls_pass, is_there, table_conditions, table_key, table_meets, table_passes, tables_pass, writes_meet};
+ghost use Rattle.protocol_script.specs.Conditions.{all_tables_pass, call_passes, calls_pass, is_there, table_conditions, table_key};
+ghost use Rattle.protocol_script.specs.Conditions.{table_meets, table_passes, tables_pass, writes_meet};
 
 use crate::contents::{are_by, are_contents, are_inside};
 use crate::shapes::is_shape_at;
@@ -140,7 +141,8 @@ fn table_passes(
     index: usize,
     object: &ScriptObject,
 ) -> Result<(), NotesEnd>
-    ensures { Gives result (table_passes trial.entry.condition trial.entry.notes.now trial.entry.made.now path.now number index object.now) }
+    ensures { Gives result (table_passes trial.entry.condition trial.entry.notes.now trial.entry.made.now path.now number index
+        object.now) }
 {
     let condition = trial.condition;
     let is_met = condition.is_met(trial.notes, trial.made, number, object);

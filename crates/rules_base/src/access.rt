@@ -1,7 +1,8 @@
 //! How a cell is accessed, and what a load gives and a store needs.
 
 ghost use Rattle.std.specs.Prelude.{◌≡◌, ◌<◌, true};
-ghost use Rattle.rules_base.specs.Access.{load_at, load_place, loaded_type, loads, local_load, local_target, object_load, object_target, parameter_load, stores, takes, target_at, target_place, thunk_load};
+ghost use Rattle.rules_base.specs.Access.{load_at, load_place, loaded_type, loads, local_load, local_target, object_load, object_target};
+ghost use Rattle.rules_base.specs.Access.{parameter_load, stores, takes, target_at, target_place, thunk_load};
 
 use crate::operand::Distance;
 use crate::parts::is_int;

@@ -1,7 +1,8 @@
 //! Parts of types that the rows look at.
 
 ghost use Rattle.std.specs.Prelude.{◌≡◌, if◌then◌else◌};
-ghost use Rattle.rules_base.specs.Parts.{constant, constant_of, divisor_of, fall_of, full, is_int, is_int_below, is_near, lin_of, near_offset, offset_of, pointer_of, signed, single, span_of};
+ghost use Rattle.rules_base.specs.Parts.{constant, constant_of, divisor_of, fall_of, full, is_int, is_int_below, is_near, lin_of};
+ghost use Rattle.rules_base.specs.Parts.{near_offset, offset_of, pointer_of, signed, single, span_of};
 ghost use Rattle.ebc_width.specs.Width.{wrap64};
 
 use note_types::Ty;

@@ -1,7 +1,10 @@
 //! Sums, differences and products of types.
 
 ghost use Rattle.std.specs.Prelude.{◌≡◌, ◌*◌, ◌+ℤ◌};
-ghost use Rattle.rules_base.specs.Sums.{added, by_bytes, by_scaled, bytes_sum, constant_difference, constant_product, constant_sum, difference, divisor_within, fall_sum, fallen, int_difference, int_product, int_sum, is_moved, lin, lin_product, lin_sum, multiple, offset_difference, offset_sum, onward, pointer_at, pointer_sum, product, scaled, scaled_sum, small_negative, strides, sum, sum_row, taken, times};
+ghost use Rattle.rules_base.specs.Sums.{added, by_bytes, by_scaled, bytes_sum, constant_difference, constant_product, constant_sum};
+ghost use Rattle.rules_base.specs.Sums.{difference, divisor_within, fall_sum, fallen, int_difference, int_product, int_sum, is_moved, lin};
+ghost use Rattle.rules_base.specs.Sums.{lin_product, lin_sum, multiple, offset_difference, offset_sum, onward, pointer_at, pointer_sum};
+ghost use Rattle.rules_base.specs.Sums.{product, scaled, scaled_sum, small_negative, strides, sum, sum_row, taken, times};
 
 use crate::divisors::shared;
 use crate::parts::{

@@ -3,7 +3,9 @@
 ghost use Rattle.std.specs.Prelude.{◌≡◌, ◌^◌, ◌<◌};
 ghost use Rattle.machine_alu.specs.Alu.{bits_of, computed, divides};
 ghost use Rattle.rules_base.specs.Parts.{full};
-ghost use Rattle.rules_data.specs.Arithmetic.{common_bits, computed_type, divided, divisor_known, error_bit, error_status, fold_row, int_row, is_last_bit, is_unary, other_row, power_product, remainder, shifted_left, shifted_right, shl_row, or_row, wide_row, folded};
+ghost use Rattle.rules_data.specs.Arithmetic.{common_bits, computed_type, divided, divisor_known, error_bit, error_status, fold_row};
+ghost use Rattle.rules_data.specs.Arithmetic.{int_row, is_last_bit, is_unary, other_row, power_product, remainder, shifted_left};
+ghost use Rattle.rules_data.specs.Arithmetic.{shifted_right, shl_row, or_row, wide_row, folded};
 
 use ebc_insn::ArithOp;
 use machine_alu::{DivideError, compute};

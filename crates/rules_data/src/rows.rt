@@ -4,7 +4,9 @@ ghost use Rattle.std.specs.Prelude.{◌≡◌, ◌<◌, ◌^◌, length, IfOk};
 ghost use Rattle.natural_index.specs.Index.{IsIndex, IsIndexSize};
 ghost use Rattle.ebc_insn.specs.Spelling.{ExtraFits, IsOperand, LeftFits, RightFits};
 ghost use Rattle.rules_base.specs.Operands.{index_distance};
-ghost use Rattle.rules_data.specs.Data.{address_type, arith_row, compare_imm_row, compare_row, fact_of, flag, frame_value, left_operand, left_value, move_access, move_imm_row, move_index_row, move_relative_row, move_row, move_signed_row, move_value, signed_value, special_type, store_special_row};
+ghost use Rattle.rules_data.specs.Data.{address_type, arith_row, compare_imm_row, compare_row, fact_of, flag, frame_value, left_operand};
+ghost use Rattle.rules_data.specs.Data.{left_value, move_access, move_imm_row, move_index_row, move_relative_row, move_row};
+ghost use Rattle.rules_data.specs.Data.{move_signed_row, move_value, signed_value, special_type, store_special_row};
 
 use crate::arithmetic::{computed_type, divisor_known};
 use crate::compares::compares;

@@ -2,7 +2,8 @@
 
 ghost use Rattle.std.specs.Ordering.{int_eq};
 ghost use Rattle.std.specs.Prelude.{◌≡◌, ◌&&◌, nat_eq, pos};
-ghost use Rattle.rules_flow.specs.Arguments.{all_lent_out, argument, arguments, is_any_start, is_cell, is_exactly, lends, lent_local, lent_out, native_argument, native_arguments, passed, wanted};
+ghost use Rattle.rules_flow.specs.Arguments.{all_lent_out, argument, arguments, is_any_start, is_cell, is_exactly, lends, lent_local};
+ghost use Rattle.rules_flow.specs.Arguments.{lent_out, native_argument, native_arguments, passed, wanted};
 
 use note_types::{Cell, Field, Item, Param, RuleName, Ty, Want, WantParam, ty_below};
 use rules_base::{both, cell_of, has_field, needs, only_field};

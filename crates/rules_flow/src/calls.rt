@@ -5,7 +5,9 @@ ghost use Rattle.std.specs.Bool.{OnTrue};
 ghost use Rattle.std.specs.List.Sorted.{IsStrictlyIncreasing};
 ghost use Rattle.ebc_insn.specs.Spelling.{ExtraFits, IsOperand, TargetFits};
 ghost use Rattle.rules_base.specs.Outcomes.{gives_map};
-ghost use Rattle.rules_flow.specs.Calls.{all_made, break_row, call_fails, call_native_row, call_row, call_to, callee_at, callee_method, called, direct_method, fits_need, is_lower, is_next_thunk, is_saved, loaded_method, may_return, method_of, native_call, result_type, return_row, signature_at, site_at, with_thunk, written_after};
+ghost use Rattle.rules_flow.specs.Calls.{all_made, break_row, call_fails, call_native_row, call_row, call_to, callee_at, callee_method};
+ghost use Rattle.rules_flow.specs.Calls.{called, direct_method, fits_need, is_lower, is_next_thunk, is_saved, loaded_method, may_return};
+ghost use Rattle.rules_flow.specs.Calls.{method_of, native_call, result_type, return_row, signature_at, site_at, with_thunk, written_after};
 ghost use Rattle.rules_flow.specs.Steps.{FitsStep, successors_of};
 
 use crate::arguments::{all_lent_out, arguments, native_arguments};
@@ -128,7 +130,8 @@ pub fn call_row(
 ) -> Result<Step, RuleName>
     requires thunks { length notes.now.thunk < 2 ^ 32 }
     requires ascend { IsStrictlyIncreasing (map (λ g. g.place) notes.now.function) }
-    ensures goes { gives_map (successors_of s.now) result ≡ call_row notes.now f.now here.now s.now aim.entry.far aim.entry.relative aim.entry.op.now aim.entry.extra.now }
+    ensures goes { gives_map (successors_of s.now) result ≡
+        call_row notes.now f.now here.now s.now aim.entry.far aim.entry.relative aim.entry.op.now aim.entry.extra.now }
     ensures fits { IfOk result (FitsStep s.now) }
 {
     let place = target_of(here, aim)?;
@@ -269,7 +272,8 @@ pub fn call_native_row(
     requires thunks { length notes.now.thunk < 2 ^ 32 }
     requires ascend { IsStrictlyIncreasing (map (λ x. x.place) notes.now.site) }
     requires target { TargetFits aim.far aim.op.now aim.extra.now }
-    ensures goes { gives_map (successors_of s.now) result ≡ call_native_row notes.now f.now here.now s.now aim.entry.far aim.entry.relative aim.entry.op.now aim.entry.extra.now }
+    ensures goes { gives_map (successors_of s.now) result ≡
+        call_native_row notes.now f.now here.now s.now aim.entry.far aim.entry.relative aim.entry.op.now aim.entry.extra.now }
     ensures fits { IfOk result (FitsStep s.now) }
 {
     let method = callee_method(notes, f, s, aim)?;

@@ -200,7 +200,8 @@ pub struct FrameMove<'a> {
 fn frame_move(notes: &Notes, f: &FnNote, s: &State, it: FrameMove) -> Result<Step, RuleName>
     requires size { IsIndexSize it.bits }
     requires index { RightFits it.bits it.ridx.now }
-    ensures goes { gives_map (successors_of s.now) result ≡ frame_move notes.now f.now s.now it.entry.size it.entry.left.now it.entry.right.now it.entry.ridx.now }
+    ensures goes { gives_map (successors_of s.now) result ≡
+        frame_move notes.now f.now s.now it.entry.size it.entry.left.now it.entry.right.now it.entry.ridx.now }
     ensures fits { IfOk result (FitsStep s.now) }
 {
     if it.left.indirect {

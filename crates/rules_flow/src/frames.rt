@@ -4,7 +4,10 @@ ghost use Rattle.std.specs.Prelude.{◌≡◌, ◌<◌, ◌≤◌, ◌*◌, ◌+
 ghost use Rattle.std.specs.List.{list_any};
 ghost use Rattle.ebc_insn.specs.Spelling.{ExtraFits, IsOperand};
 ghost use Rattle.std.specs.Bool.{OnTrue};
-ghost use Rattle.rules_flow.specs.Frames.{at, below_top, drop_row, forgotten, frame_row, has_room, is_popped, is_size, is_within, item_size, items_size, left_after, left_item, left_type, loses, make_row, one_slot, plus, pop_destination, pop_row, popped_type, push_row, slot_access, slot_type, top_type, with_item, with_left, without_top, left_registers};
+ghost use Rattle.rules_flow.specs.Frames.{at, below_top, drop_row, forgotten, frame_row, has_room, is_popped, is_size, is_within};
+ghost use Rattle.rules_flow.specs.Frames.{item_size, items_size, left_after, left_item, left_type, loses, make_row, one_slot, plus};
+ghost use Rattle.rules_flow.specs.Frames.{pop_destination, pop_row, popped_type, push_row, slot_access, slot_type, top_type, with_item};
+ghost use Rattle.rules_flow.specs.Frames.{with_left, without_top, left_registers};
 ghost use Rattle.note_types.specs.Known.{is_locals, is_slot};
 ghost use Rattle.rules_base.specs.Outcomes.{gives_map};
 ghost use Rattle.rules_flow.specs.Steps.{FitsStep, successors_of};

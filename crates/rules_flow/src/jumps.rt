@@ -4,7 +4,8 @@ ghost use Rattle.std.specs.Prelude.{◌≡◌, ◌+ℤ◌, IfOk, map, pos};
 ghost use Rattle.std.specs.List.Sorted.{IsStrictlyIncreasing};
 ghost use Rattle.note_types.specs.declared.state.State.{State};
 ghost use Rattle.rules_base.specs.Outcomes.{gives_map};
-ghost use Rattle.rules_flow.specs.Jumps.{absolute, jump8_row, jump_row, jump_to, jumps, no_target, place_within, point_at, relative, target_of};
+ghost use Rattle.rules_flow.specs.Jumps.{absolute, jump8_row, jump_row, jump_to, jumps, no_target, place_within, point_at, relative};
+ghost use Rattle.rules_flow.specs.Jumps.{target_of};
 ghost use Rattle.rules_flow.specs.Steps.{FitsStep, successors_of};
 
 use crate::placed::number_from;
@@ -139,7 +140,8 @@ pub fn jump_row(
     aim: Aim,
 ) -> Result<Step, RuleName>
     requires { IsStrictlyIncreasing (map (λ p. p.place) notes.now.point) }
-    ensures goes { (s : State) → gives_map (successors_of s) result ≡ jump_row notes.now f.now here.now s cond aim.entry.far aim.entry.relative aim.entry.op.now aim.entry.extra.now }
+    ensures goes { (s : State) → gives_map (successors_of s) result ≡
+        jump_row notes.now f.now here.now s cond aim.entry.far aim.entry.relative aim.entry.op.now aim.entry.extra.now }
     ensures fits { (s : State) → IfOk result (FitsStep s) }
 {
     let place = target_of(here, aim)?;

@@ -1,7 +1,9 @@
 //! What a comparison says on either side of a jump.
 
 ghost use Rattle.std.specs.Prelude.{◌≡◌};
-ghost use Rattle.rules_flow.specs.Narrowing.{at_least, at_most, cut_to, exactly, from, granted, int_of, is_not_null, is_plain, is_signed_success, is_success, narrow, narrowed, narrowed_by, narrowed_span, other_than, past, short_of, up_to};
+ghost use Rattle.rules_flow.specs.Narrowing.{at_least, at_most, cut_to, exactly, from, granted, int_of, is_not_null, is_plain};
+ghost use Rattle.rules_flow.specs.Narrowing.{is_signed_success, is_success, narrow, narrowed, narrowed_by, narrowed_span, other_than, past};
+ghost use Rattle.rules_flow.specs.Narrowing.{short_of, up_to};
 ghost use Rattle.note_types.specs.States.{type_of};
 
 use ebc_insn::CmpOp;

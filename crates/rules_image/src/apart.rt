@@ -7,7 +7,8 @@ ghost use Rattle.note_types.specs.declared.notes.Thunk.{Thunk};
 ghost use Rattle.note_types.specs.declared.shape.Shape.{Shape};
 ghost use Rattle.pe_image.specs.Images.{IsImage};
 ghost use Rattle.rules_image.specs.Images.{AreApart, extent};
-ghost use Rattle.rules_image.specs.Checks.{AreAllApart, AreInTurn, AreNumbered, IsRangeOf, things, IsApartFromFunctions, IsApartFromStatic, IsApartFromStatics, IsApartFromThunks};
+ghost use Rattle.rules_image.specs.Checks.{AreAllApart, AreInTurn, AreNumbered, IsRangeOf, things, IsApartFromFunctions, IsApartFromStatic};
+ghost use Rattle.rules_image.specs.Checks.{IsApartFromStatics, IsApartFromThunks};
 
 use note_types::{FnNote, Notes, Shape, Static, Thunk};
 use pe_image::Image;

@@ -6,8 +6,10 @@ ghost use Rattle.note_types.specs.Records.{IsNotes};
 ghost use Rattle.note_types.specs.Shapes.{IsShape, size_at, start_at};
 ghost use Rattle.note_types.specs.declared.cell.Cell.TheVariants.{P64};
 ghost use Rattle.pe_image.specs.Images.{IsImage};
-ghost use Rattle.rules_image.specs.Images.{CellHolds, HasContent, IsBlank, IsFilled, IsLinked, IsUnrelocated, IsZero, MayBeZero, RelocatesPointers, depends, extent, has_natural, is_natural};
-ghost use Rattle.rules_image.specs.Contents.{AreNear, CellsHold, HasPointer, InstancesHold, MayAllBeZero, is_pointer_at, is_static_of, is_wide_pointer};
+ghost use Rattle.rules_image.specs.Images.{CellHolds, HasContent, IsBlank, IsFilled, IsLinked, IsUnrelocated, IsZero, MayBeZero};
+ghost use Rattle.rules_image.specs.Images.{RelocatesPointers, depends, extent, has_natural, is_natural};
+ghost use Rattle.rules_image.specs.Contents.{AreNear, CellsHold, HasPointer, InstancesHold, MayAllBeZero, is_pointer_at, is_static_of};
+ghost use Rattle.rules_image.specs.Contents.{is_wide_pointer};
 
 use crate::marks::first_reloc;
 use crate::ranges::{is_relocated, is_unrelocated, is_zero};

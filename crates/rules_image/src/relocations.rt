@@ -1,7 +1,8 @@
 //! The rules of an instruction that look at the image: whether its relocation is allowed, and whether control can leave the
 //! function past it.
 
-ghost use Rattle.std.specs.Prelude.{◌≡◌, ◌+◌, ◌<◌, ◌≤◌, ◌↔◌, ◌^◌, ◌||◌, ℕ, IfNone, IfOk, IfSome, IsTrue, OnErr, Some, length, slice_get, true};
+ghost use Rattle.std.specs.Prelude.{◌≡◌, ◌+◌, ◌<◌, ◌≤◌, ◌↔◌, ◌^◌, ◌||◌, ℕ, IfNone, IfOk, IfSome, IsTrue, OnErr, Some, length, slice_get};
+ghost use Rattle.std.specs.Prelude.{true};
 ghost use Rattle.pe_image.specs.Images.{IsImage};
 ghost use Rattle.rules_image.specs.Images.{EndHolds, RelocationHolds, falls, is_absolute, is_address_move, reloc_at, NamesAt};
 ghost use Rattle.rules_image.specs.Marks.{RelocsFrom};

@@ -61,7 +61,8 @@ fn append_run(
     run: &ShownRun,
     out: &mut Vec<u8>,
 ) -> Result<(), NoMemory>
-    ensures { OnOk result (out.new.items ≡ out.old.items ++ run_text notes.now run.now.events.now run.now.steps run.now.spot run.now.ending) }
+    ensures { OnOk result (out.new.items ≡
+        out.old.items ++ run_text notes.now run.now.events.now run.now.steps run.now.spot run.now.ending) }
 {
     append_events(alloc, notes, run.events, out)?;
     append_end(alloc, notes, run.steps, run.spot, run.ending, out)

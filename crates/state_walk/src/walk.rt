@@ -6,7 +6,8 @@ ghost use Rattle.note_types.specs.declared.notes.FnNote.{FnNote};
 ghost use Rattle.pe_image.specs.Images.{IsImage};
 ghost use Rattle.rules_image.specs.Tables.{IsCodeOf};
 ghost use Rattle.width_checker.specs.Walks.{Arrives};
-ghost use Rattle.state_walk.specs.Standing.{Decodes, GoesOn, HasDecoded, HasHere, HasInsnOf, HasStateOf, IsInsnOf, IsWalk, IsWholeOf, StandsBefore, StandsHere};
+ghost use Rattle.state_walk.specs.Standing.{Decodes, GoesOn, HasDecoded, HasHere, HasInsnOf, HasStateOf, IsInsnOf, IsWalk, IsWholeOf};
+ghost use Rattle.state_walk.specs.Standing.{StandsBefore, StandsHere};
 
 use crate::preceding::{Before, Since, since_then};
 use ebc_decode::decode;

@@ -29,7 +29,8 @@ pub fn sound_data<const W: usize>(
     ensures objects { KeepsObjects memory.old memory.new }
     ensures raised { LeavesAll machine.old memory.old machine.new memory.new result }
     ensures simulated { IfOk (after_data notes.now here.now state.now insn.now) (λ t.
-        StepSimulated W notes.now here.now state.now insn.now (concrete_of machine.old memory.old) (result, concrete_of machine.new memory.new) (falls t)) }
+        StepSimulated W notes.now here.now state.now insn.now (concrete_of machine.old memory.old)
+        (result, concrete_of machine.new memory.new) (falls t)) }
 {
     machine.step(memory)
 }

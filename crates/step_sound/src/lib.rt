@@ -34,7 +34,8 @@ mod flow;
 ghost use Rattle.step_sound.specs.HostStack.{HostFramesFit};
 ghost use Rattle.step_sound.specs.Loaded.{ReadIsDecoded, StaticsAreShown, ThunksAreLoaded};
 ghost use Rattle.step_sound.specs.StepLaw.{RunStepKeepsStanding};
-ghost use Rattle.step_sound.specs.StepLaws.{CallsKeep, EntersKeep, LastKeeps, LeavingKeeps, NativeCallsKeep, NextStepIsThere, NotifiesKeep, PlainStepsKeep, RepliesKeep, ResumingKeeps, StartMeets, ThunksKeep};
+ghost use Rattle.step_sound.specs.StepLaws.{CallsKeep, EntersKeep, LastKeeps, LeavingKeeps, NativeCallsKeep, NextStepIsThere, NotifiesKeep};
+ghost use Rattle.step_sound.specs.StepLaws.{PlainStepsKeep, RepliesKeep, ResumingKeeps, StartMeets, ThunksKeep};
 
 pub use crate::data::sound_data;
 pub use crate::flow::sound_flow;

@@ -39,8 +39,11 @@ impl<const W: usize> Runner<W> {
     /// The native call that is asked for, where the next step is the host's answer to it.
     pub fn asked_call(&self) -> Option<AskedCall>
         ensures asked { IfSome result (λ a. self.now.asked ≡ Some a) }
-        ensures seen { IfSome result (λ a. (world : World) (r : RunState) → IsRunner W world self.now r → r.ending ≡ Running → host_view W world (own_placement W world) r ≡ Some (Calls a.place (asking_at W world (own_placement W world) r a.place a.target))) }
-        ensures none { IfNone result ((world : World) (r : RunState) → IsRunner W world self.now r → r.ending ≡ Running → place_called (host_view W world (own_placement W world) r) ≡ None) }
+        ensures seen { IfSome result (λ a. (world : World) (r : RunState) → IsRunner W world self.now r → r.ending ≡ Running →
+            host_view W world (own_placement W world) r ≡
+            Some (Calls a.place (asking_at W world (own_placement W world) r a.place a.target))) }
+        ensures none { IfNone result ((world : World) (r : RunState) → IsRunner W world self.now r → r.ending ≡ Running →
+            place_called (host_view W world (own_placement W world) r) ≡ None) }
     {
         if self.machine.ip == self.machine.gate {
             return None;
@@ -58,10 +61,13 @@ impl<const W: usize> Runner<W> {
         requires stack { HasStack W notes.now (placement_of self.old.host.places) self.old.mem }
         requires inside { 0 < length self.old.frames }
         requires asked { self.old.asked ≡ Some asked.now }
-        ensures step { (world : World) (r : RunState) → world.notes ≡ notes.now → IsAt W world self.old r → result ≡ bound_step asked.now.place (asking_at W world (own_placement W world) r asked.now.place asked.now.target) }
-        ensures called { (world : World) (r : RunState) → world.notes ≡ notes.now → IsAt W world self.old r → OnCalled result (λ signature args. length args ≡ length (signature_params notes.now signature)) }
+        ensures step { (world : World) (r : RunState) → world.notes ≡ notes.now → IsAt W world self.old r →
+            result ≡ bound_step asked.now.place (asking_at W world (own_placement W world) r asked.now.place asked.now.target) }
+        ensures called { (world : World) (r : RunState) → world.notes ≡ notes.now → IsAt W world self.old r →
+            OnCalled result (λ signature args. length args ≡ length (signature_params notes.now signature)) }
         ensures at { (world : World) (r : RunState) → IsAt W world self.old r → IsAt W world self.new r }
-        ensures slots { (world : World) (r : RunState) → world.notes ≡ notes.now → IsAt W world self.old r → self.new.frames ≡ with_arguments (slots_asked W world r (Asked asked.now.place asked.now.target)) self.old.frames }
+        ensures slots { (world : World) (r : RunState) → world.notes ≡ notes.now → IsAt W world self.old r →
+            self.new.frames ≡ with_arguments (slots_asked W world r (Asked asked.now.place asked.now.target)) self.old.frames }
         ensures kept { self.new ≡ record self.old { frames = self.new.frames } }
         ensures len { length self.new.frames ≡ length self.old.frames }
     {
@@ -80,7 +86,8 @@ impl<const W: usize> Runner<W> {
     /// fewer thunks were served than its notes have, or at the first argument that doesn't fit its parameter.
     pub fn provider_refused(&self, notes: &Notes, function: u32, args: &Args) -> Option<Ending>
         requires read { IsNotes notes.now }
-        ensures { (world : World) (r : RunState) → world.notes ≡ notes.now → IsAt W world self.now r → result ≡ provider_refused world r.script function args.now }
+        ensures { (world : World) (r : RunState) → world.notes ≡ notes.now → IsAt W world self.now r →
+            result ≡ provider_refused world r.script function args.now }
     {
         self.host.provider_refused(notes, function, args)
     }
@@ -95,7 +102,10 @@ impl<const W: usize> Runner<W> {
         requires each { length args.now ≡ length (function_params notes.now func) }
         requires outside { self.old.frames ≡ [] }
         requires settled { self.old.asked ≡ None }
-        ensures runner { (world : World) (r : RunState) → world.notes ≡ notes.now → Rests W world self.old r → IsRunner W world self.new (entered false W world (own_placement W world) r func (map (λ (s : Seen). written_number W world.notes (own_placement W world) (objects_at world r) s.value) args.now)) }
+        ensures runner { (world : World) (r : RunState) → world.notes ≡ notes.now → Rests W world self.old r →
+            IsRunner W world self.new
+            (entered false W world (own_placement W world) r func
+            (map (λ (s : Seen). written_number W world.notes (own_placement W world) (objects_at world r) s.value) args.now)) }
         ensures host { self.new.host ≡ self.old.host }
     {
         let numbers = argument_numbers(&self.host, args);
@@ -108,9 +118,12 @@ impl<const W: usize> Runner<W> {
     pub fn leave_first(&mut self, notes: &Notes) -> Option<FirstReturn>
         requires width { IsWidth W }
         requires notes { IsOf W notes.now self.old.host.places }
-        ensures seen { IfSome result (λ e. (world : World) (r : RunState) → world.notes ≡ notes.now → IsRunner W world self.old r → r.ending ≡ Running → host_view W world (own_placement W world) r ≡ Some (Returns true e.func e.value)) }
-        ensures rests { IfSome result (λ e. (world : World) (r : RunState) → world.notes ≡ notes.now → IsRunner W world self.old r → r.ending ≡ Running → Rests W world self.new (left r r.hosts)) }
-        ensures other { IfNone result ((world : World) (r : RunState) → IsRunner W world self.old r → r.ending ≡ Running → IsNoFirstReturn (host_view W world (own_placement W world) r)) }
+        ensures seen { IfSome result (λ e. (world : World) (r : RunState) → world.notes ≡ notes.now → IsRunner W world self.old r →
+            r.ending ≡ Running → host_view W world (own_placement W world) r ≡ Some (Returns true e.func e.value)) }
+        ensures rests { IfSome result (λ e. (world : World) (r : RunState) → world.notes ≡ notes.now → IsRunner W world self.old r →
+            r.ending ≡ Running → Rests W world self.new (left r r.hosts)) }
+        ensures other { IfNone result ((world : World) (r : RunState) → IsRunner W world self.old r → r.ending ≡ Running →
+            IsNoFirstReturn (host_view W world (own_placement W world) r)) }
         ensures same { IfNone result (self.new ≡ self.old) }
         ensures host { self.new.host ≡ self.old.host }
         ensures quiet { self.new.quiet ≡ self.old.quiet }
@@ -149,9 +162,12 @@ impl<const W: usize> Runner<W> {
         requires width { IsWidth W }
         requires notes { IsOf W notes.now self.old.host.places }
         requires inside { 0 < length self.old.frames }
-        ensures answered { OnOk result ((world : World) (r : RunState) → world.notes ≡ notes.now → IsRunner W world self.old r → IsRunner W world self.new (bound_reply W world (own_placement W world) r (signature_result notes.now signature) value.now)) }
-        ensures fits { OnOk result ((world : World) (r : RunState) → world.notes ≡ notes.now → IsAt W world self.old r → reply_refused world r.script (signature_result notes.now signature) value.now ≡ None) }
-        ensures refused { IfErr result (λ e. (world : World) (r : RunState) → world.notes ≡ notes.now → IsAt W world self.old r → reply_refused world r.script (signature_result notes.now signature) value.now ≡ Some e) }
+        ensures answered { OnOk result ((world : World) (r : RunState) → world.notes ≡ notes.now → IsRunner W world self.old r →
+            IsRunner W world self.new (bound_reply W world (own_placement W world) r (signature_result notes.now signature) value.now)) }
+        ensures fits { OnOk result ((world : World) (r : RunState) → world.notes ≡ notes.now → IsAt W world self.old r →
+            reply_refused world r.script (signature_result notes.now signature) value.now ≡ None) }
+        ensures refused { IfErr result (λ e. (world : World) (r : RunState) → world.notes ≡ notes.now → IsAt W world self.old r →
+            reply_refused world r.script (signature_result notes.now signature) value.now ≡ Some e) }
         ensures same { OnErr result (self.new ≡ self.old) }
         ensures host { self.new.host ≡ self.old.host }
     {

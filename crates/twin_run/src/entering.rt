@@ -49,7 +49,8 @@ fn kinds_of(params: &[Param]) -> [SlotKind; 16]
 pub(crate) fn numbers_of<const W: usize>(host: &Host<W>, values: &Values) -> ArrayVec<u64, 16>
     requires width { IsWidth W }
     requires few { length values.now ≤ 16 }
-    ensures { (notes : Notes) → IsOf W notes host.now.places → result.items ≡ map (written_number W notes (placement_of host.now.places) host.now.made.items) values.now }
+    ensures { (notes : Notes) → IsOf W notes host.now.places →
+        result.items ≡ map (written_number W notes (placement_of host.now.places) host.now.made.items) values.now }
 {
     let mut numbers = ArrayVec::new();
     for value in values.as_slice() {
@@ -61,7 +62,8 @@ pub(crate) fn numbers_of<const W: usize>(host: &Host<W>, values: &Values) -> Arr
 // The numbers of arguments.
 pub(crate) fn argument_numbers<const W: usize>(host: &Host<W>, args: &Args) -> ArrayVec<u64, 16>
     requires width { IsWidth W }
-    ensures { (notes : Notes) → IsOf W notes host.now.places → result.items ≡ map (λ (s : Seen). written_number W notes (placement_of host.now.places) host.now.made.items s.value) args.now }
+    ensures { (notes : Notes) → IsOf W notes host.now.places →
+        result.items ≡ map (λ (s : Seen). written_number W notes (placement_of host.now.places) host.now.made.items s.value) args.now }
 {
     let mut numbers = ArrayVec::new();
     for arg in args.as_slice() {
@@ -80,7 +82,8 @@ impl<const W: usize> Runner<W> {
         requires each { length numbers.now ≡ length (function_params notes.now func) }
         requires settled { self.old.asked ≡ None }
         requires depth { length self.old.frames < frame_limit }
-        ensures at { (world : World) (r : RunState) → world.notes ≡ notes.now → IsAt W world self.old r → IsAt W world self.new (entered notified W world (own_placement W world) r func numbers.now) }
+        ensures at { (world : World) (r : RunState) → world.notes ≡ notes.now → IsAt W world self.old r →
+            IsAt W world self.new (entered notified W world (own_placement W world) r func numbers.now) }
         ensures host { self.new.host ≡ self.old.host }
         ensures quiet { self.new.quiet ≡ self.old.quiet }
         ensures taken { self.new.taken ≡ self.old.taken }
@@ -108,9 +111,13 @@ impl<const W: usize> Runner<W> {
         requires each { length kinds.now ≡ length numbers.now }
         requires few { length kinds.now ≤ 16 }
         requires depth { length self.old.frames < frame_limit }
-        ensures inside { OnDone result (inside W (concrete_of self.old.machine self.old.mem) ((placement_of self.old.host.places).image + place) (params_of kinds.now) numbers.now ≡ Some (concrete_of self.new.machine self.new.mem)) }
-        ensures frames { OnDone result (map saved_of self.new.frames ≡ frame_for notified (concrete_of self.old.machine self.old.mem) func ∷ map saved_of self.old.frames) }
-        ensures fault { OnRefused result (inside W (concrete_of self.old.machine self.old.mem) ((placement_of self.old.host.places).image + place) (params_of kinds.now) numbers.now ≡ None) }
+        ensures inside { OnDone result (inside W (concrete_of self.old.machine self.old.mem)
+            ((placement_of self.old.host.places).image + place) (params_of kinds.now) numbers.now ≡
+            Some (concrete_of self.new.machine self.new.mem)) }
+        ensures frames { OnDone result (map saved_of self.new.frames ≡
+            frame_for notified (concrete_of self.old.machine self.old.mem) func ∷ map saved_of self.old.frames) }
+        ensures fault { OnRefused result (inside W (concrete_of self.old.machine self.old.mem)
+            ((placement_of self.old.host.places).image + place) (params_of kinds.now) numbers.now ≡ None) }
         ensures same { OnRefused result (self.new ≡ self.old) }
         ensures objects { KeepsObjects self.old.mem self.new.mem }
         ensures kept { self.new ≡ record self.old { machine = self.new.machine; mem = self.new.mem; frames = self.new.frames } }

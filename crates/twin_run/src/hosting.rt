@@ -26,7 +26,8 @@ impl<const W: usize> Runner<W> {
         requires notes { IsOf W notes.now self.old.host.places }
         requires room { HasRoom self.old.host 1 }
         requires inside { 0 < length self.old.frames }
-        ensures at { (world : World) (r : RunState) → world.notes ≡ notes.now → nat_eq r.machine.ip r.machine.gate ≡ true → IsAt W world self.old r → IsAt W world self.new (host_step W world (own_placement W world) r) }
+        ensures at { (world : World) (r : RunState) → world.notes ≡ notes.now → nat_eq r.machine.ip r.machine.gate ≡ true →
+            IsAt W world self.old r → IsAt W world self.new (host_step W world (own_placement W world) r) }
         ensures capacity { vec_capacity self.old.host.trace ≤ vec_capacity self.new.host.trace }
     {
         let Some(left) = leave(&mut self.machine, &mut self.frames) else {
@@ -47,7 +48,9 @@ impl<const W: usize> Runner<W> {
         requires width { IsWidth W }
         requires ready { IsReady W notes.now script.now self.old }
         requires asked { self.old.asked ≡ Some asked }
-        ensures at { (world : World) (r : RunState) → world.notes ≡ notes.now → world.script ≡ script.now → nat_eq r.machine.ip r.machine.gate ≡ false → IsAt W world self.old r → IsAt W world self.new (host_step W world (own_placement W world) r) }
+        ensures at { (world : World) (r : RunState) → world.notes ≡ notes.now → world.script ≡ script.now →
+            nat_eq r.machine.ip r.machine.gate ≡ false → IsAt W world self.old r →
+            IsAt W world self.new (host_step W world (own_placement W world) r) }
         ensures capacity { vec_capacity self.old.host.trace ≤ vec_capacity self.new.host.trace }
     {
         let r0 = self.machine.regs[0];
@@ -71,7 +74,9 @@ impl<const W: usize> Runner<W> {
         requires ready { IsReady W notes.now script.now self.old }
         requires asked { self.old.asked ≡ None }
         requires called { IsCalled self.old.frames }
-        ensures at { (world : World) (r : RunState) → world.notes ≡ notes.now → world.script ≡ script.now → nat_eq r.machine.ip r.machine.gate ≡ false → IsAt W world self.old r → IsAt W world self.new (host_step W world (own_placement W world) r) }
+        ensures at { (world : World) (r : RunState) → world.notes ≡ notes.now → world.script ≡ script.now →
+            nat_eq r.machine.ip r.machine.gate ≡ false → IsAt W world self.old r →
+            IsAt W world self.new (host_step W world (own_placement W world) r) }
         ensures capacity { vec_capacity self.old.host.trace ≤ vec_capacity self.new.host.trace }
     {
         let step = self
@@ -85,7 +90,9 @@ impl<const W: usize> Runner<W> {
         requires width { IsWidth W }
         requires ready { IsReady W notes.now script.now self.old }
         requires asked { self.old.asked ≡ None }
-        ensures at { (world : World) (r : RunState) → world.notes ≡ notes.now → world.script ≡ script.now → nat_eq r.machine.ip r.machine.gate ≡ false → call_under_way r.hosts ≡ NoCall → is_due world.script r.script ≡ true → IsAt W world self.old r → IsAt W world self.new (host_step W world (own_placement W world) r) }
+        ensures at { (world : World) (r : RunState) → world.notes ≡ notes.now → world.script ≡ script.now →
+            nat_eq r.machine.ip r.machine.gate ≡ false → call_under_way r.hosts ≡ NoCall → is_due world.script r.script ≡ true →
+            IsAt W world self.old r → IsAt W world self.new (host_step W world (own_placement W world) r) }
         ensures capacity { vec_capacity self.old.host.trace ≤ vec_capacity self.new.host.trace }
     {
         let step = self.host.notification(notes, script, &self.frames);
@@ -98,8 +105,11 @@ impl<const W: usize> Runner<W> {
         requires width { IsWidth W }
         requires notes { IsNotes notes.now }
         requires kept { IsOf W notes.now self.old.host.places }
-        requires entered { OnEnter step (λ func args. (func < length notes.now.function) × (length args ≡ length (function_params notes.now func)) × (length self.old.frames < frame_limit) × (self.old.asked ≡ None)) }
-        ensures at { (world : World) (r : RunState) → world.notes ≡ notes.now → IsAt W world self.old r → IsAt W world self.new (taken notified W world (own_placement W world) r step) }
+        requires entered { OnEnter step (λ func args.
+            (func < length notes.now.function) × (length args ≡ length (function_params notes.now func)) ×
+            (length self.old.frames < frame_limit) × (self.old.asked ≡ None)) }
+        ensures at { (world : World) (r : RunState) → world.notes ≡ notes.now → IsAt W world self.old r →
+            IsAt W world self.new (taken notified W world (own_placement W world) r step) }
         ensures host { self.new.host ≡ self.old.host }
     {
         match step {

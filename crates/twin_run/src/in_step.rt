@@ -19,7 +19,8 @@ fn is_one_place(at4: &Runner<4>, at8: &Runner<8>) -> bool
     ensures inside4 { IsTrue result → at4.now.machine.ip ≢ at4.now.machine.gate }
     ensures inside8 { IsTrue result → at8.now.machine.ip ≢ at8.now.machine.gate }
     ensures spot { (world : World) (r s : RunState) (d e : ℕ) → IsTrue result → IsAt 4 world (record at4.now { done = d }) r
-        → IsAt 8 world (record at8.now { done = e }) s → spot_of world (own_placement 4 world) r.machine ≡ spot_of world (own_placement 8 world) s.machine }
+        → IsAt 8 world (record at8.now { done = e }) s →
+        spot_of world (own_placement 4 world) r.machine ≡ spot_of world (own_placement 8 world) s.machine }
 {
     let Some(place) = at4.place() else {
         return false;
@@ -40,7 +41,8 @@ fn instructions(at4: &mut Runner<4>, at8: &mut Runner<8>, notes: &Notes, most: u
     requires inside8 { at8.old.machine.ip ≢ at8.old.machine.gate }
     ensures done4 { HasDone 4 notes.now most at4.old at4.new result }
     ensures done8 { HasDone 8 notes.now most at8.old at8.new result }
-    ensures same { (world : World) (r s : RunState) → world.notes ≡ notes.now → IsFree world.script at4.old most → IsFree world.script at8.old most
+    ensures same { (world : World) (r s : RunState) → world.notes ≡ notes.now → IsFree world.script at4.old most →
+        IsFree world.script at8.old most
         → r.ending ≡ Running → IsAt 4 world at4.old r → IsAt 8 world at8.old s
         → SameRun world (own_placement 4 world) r (own_placement 8 world) s → AreSameBefore world result r s }
     ensures some { 0 < result }
@@ -77,7 +79,8 @@ pub fn steps(
     requires some { 0 < most }
     ensures steps4 { TakesSteps 4 notes.now script.now at4.old at4.new result }
     ensures steps8 { TakesSteps 8 notes.now script.now at8.old at8.new result }
-    ensures same { (world : World) (r s : RunState) → world.notes ≡ notes.now → world.script ≡ script.now → IsRunner 4 world at4.old r → IsRunner 8 world at8.old s
+    ensures same { (world : World) (r s : RunState) → world.notes ≡ notes.now → world.script ≡ script.now → IsRunner 4 world at4.old r →
+        IsRunner 8 world at8.old s
         → SameRun world (own_placement 4 world) r (own_placement 8 world) s → AreSameBefore world result r s }
     ensures some { 0 < result }
     ensures most { result ≤ most }

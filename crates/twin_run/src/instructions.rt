@@ -22,7 +22,9 @@ use note_types::{Ending, Notes};
 impl<const W: usize> Runner<W> {
     // The place of the image at an address, and none outside the image.
     pub(crate) fn image_place(&self, addr: u64) -> Option<u32>
-        ensures { (world : World) (P : Placement) → P.image ≡ (placement_of self.now.host.places).image → world.image_size ≡ self.now.image_size → result ≡ (if covers addr 1 (image_range world P) then Some (addr - P.image) else None) }
+        ensures { (world : World) (P : Placement) → P.image ≡ (placement_of self.now.host.places).image →
+            world.image_size ≡ self.now.image_size →
+            result ≡ (if covers addr 1 (image_range world P) then Some (addr - P.image) else None) }
     {
         let base = self.host.image_base();
         let size = self.image_size;
@@ -36,7 +38,8 @@ impl<const W: usize> Runner<W> {
     // The place of the image where the run stands: none at the gate and outside the image.
     pub(crate) fn place(&self) -> Option<u32>
         ensures inside { IfSome result (λ place. self.now.machine.ip ≢ self.now.machine.gate) }
-        ensures spot { IfSome result (λ place. (world : World) (r : RunState) (d : ℕ) → IsAt W world (record self.now { done = d }) r → Place place ≡ spot_of world (own_placement W world) r.machine) }
+        ensures spot { IfSome result (λ place. (world : World) (r : RunState) (d : ℕ) → IsAt W world (record self.now { done = d }) r →
+            Place place ≡ spot_of world (own_placement W world) r.machine) }
     {
         if self.machine.ip == self.machine.gate {
             None
@@ -47,7 +50,8 @@ impl<const W: usize> Runner<W> {
 
     // The place of a call instruction at an address.
     fn call_place(&self, addr: u64) -> u32
-        ensures { (world : World) (P : Placement) → P.image ≡ (placement_of self.now.host.places).image → world.image_size ≡ self.now.image_size → result ≡ call_place world P addr }
+        ensures { (world : World) (P : Placement) → P.image ≡ (placement_of self.now.host.places).image →
+            world.image_size ≡ self.now.image_size → result ≡ call_place world P addr }
     {
         match self.image_place(addr) {
             Some(place) => place,
@@ -83,7 +87,8 @@ impl<const W: usize> Runner<W> {
     pub(crate) fn instruction(&mut self, notes: &Notes) -> bool
         requires width { IsWidth W }
         requires notes { IsOf W notes.now self.old.host.places }
-        ensures at { (world : World) (r : RunState) (d : ℕ) → world.notes ≡ notes.now → IsAt W world (record self.old { done = d }) r → IsAt W world (record self.new { done = min (d + 1) (2 ^ 64 - 1) }) (instruction_step W world (own_placement W world) r) }
+        ensures at { (world : World) (r : RunState) (d : ℕ) → world.notes ≡ notes.now → IsAt W world (record self.old { done = d }) r →
+            IsAt W world (record self.new { done = min (d + 1) (2 ^ 64 - 1) }) (instruction_step W world (own_placement W world) r) }
         ensures next { IsTrue result → self.new ≡ record self.old { machine = self.new.machine; mem = self.new.mem } }
         ensures done { self.new.done ≡ self.old.done }
         ensures trace { self.new.host.trace ≡ self.old.host.trace }
@@ -109,7 +114,12 @@ impl<const W: usize> Runner<W> {
     fn serve_thunk(&mut self, notes: &Notes, ip: u64, addr: u64)
         requires width { IsWidth W }
         requires notes { IsOf W notes.now self.old.host.places }
-        ensures at { (world : World) (r : RunState) (d : ℕ) → world.notes ≡ notes.now → r.machine ≡ concrete_of (record self.old.machine { ip = ip }) self.old.mem → IsAt W world (record self.old { done = d }) (record r { machine = concrete_of self.old.machine self.old.mem }) → IsAt W world (record self.new { done = d }) (thunk_made W world (own_placement W world) r (concrete_of self.old.machine self.old.mem) addr (thunk_view world (own_placement W world) (concrete_of self.old.machine self.old.mem) addr)) }
+        ensures at { (world : World) (r : RunState) (d : ℕ) → world.notes ≡ notes.now →
+            r.machine ≡ concrete_of (record self.old.machine { ip = ip }) self.old.mem →
+            IsAt W world (record self.old { done = d }) (record r { machine = concrete_of self.old.machine self.old.mem }) →
+            IsAt W world (record self.new { done = d })
+            (thunk_made W world (own_placement W world) r (concrete_of self.old.machine self.old.mem) addr
+            (thunk_view world (own_placement W world) (concrete_of self.old.machine self.old.mem) addr)) }
         ensures done { self.new.done ≡ self.old.done }
         ensures trace { self.new.host.trace ≡ self.old.host.trace }
         ensures quiet { (script : Script) → IsQuiet script self.old → IsQuiet script self.new }

@@ -1,5 +1,6 @@
 //! The runner of a run at one width (docs/HOST.md, "Runs").
-ghost use Rattle.std.specs.Prelude.{◌≡◌, ◌≢◌, ◌↔◌, ◌+◌, ◌-◌, ◌^◌, ◌<◌, ◌≤◌, false, min, IfOk, IfSome, IsTrue, None, length, map, vec_capacity};
+ghost use Rattle.std.specs.Prelude.{◌≡◌, ◌≢◌, ◌↔◌, ◌+◌, ◌-◌, ◌^◌, ◌<◌, ◌≤◌, false, min, IfOk, IfSome, IsTrue, None, length, map};
+ghost use Rattle.std.specs.Prelude.{vec_capacity};
 ghost use Rattle.std.specs.Bool.{OnFalse, OnTrue};
 ghost use Rattle.ebc_width.specs.Width.{IsWidth};
 ghost use Rattle.note_types.specs.Records.{IsNotes};
@@ -80,7 +81,9 @@ pub fn start<const W: usize>(
     requires bytes { AreBytes image.now }
     requires notes { IsNotes notes.now }
     requires script { IsScript notes.now script.now }
-    ensures start { IfOk result (λ x. IsRunner W (world_of image.now notes.now script.now) x (run_of W (world_of image.now notes.now script.now) (own_placement W (world_of image.now notes.now script.now)) image.now 0)) }
+    ensures start { IfOk result (λ x.
+        IsRunner W (world_of image.now notes.now script.now) x
+        (run_of W (world_of image.now notes.now script.now) (own_placement W (world_of image.now notes.now script.now)) image.now 0)) }
     ensures taken { IfOk result (λ x. x.taken ≡ 0) }
 {
     let (host, mem) = native_host::start::<W>(alloc, image, notes, script)?;
@@ -114,7 +117,8 @@ impl<const W: usize> Runner<W> {
     pub fn step(&mut self, image: &Image, notes: &Notes, script: &Script)
         requires width { IsWidth W }
         requires runs { Runs W notes.now script.now self.old }
-        ensures step { (world : World) (r : RunState) → world.notes ≡ notes.now → world.script ≡ script.now → IsRunner W world self.old r → IsRunner W world self.new (run_step W world (own_placement W world) r) }
+        ensures step { (world : World) (r : RunState) → world.notes ≡ notes.now → world.script ≡ script.now → IsRunner W world self.old r →
+            IsRunner W world self.new (run_step W world (own_placement W world) r) }
         ensures counted { self.old.ending ≡ Running → self.new.taken ≡ min (self.old.taken + 1) (2 ^ 64 - 1) }
         ensures over { self.old.ending ≢ Running → self.new ≡ self.old }
     {
@@ -145,8 +149,10 @@ impl<const W: usize> Runner<W> {
         requires runs { Runs W notes.now script.now self.old }
         requires running { self.old.ending ≡ Running }
         requires some { 0 < most }
-        ensures steps { (world : World) (r : RunState) → world.notes ≡ notes.now → world.script ≡ script.now → IsRunner W world self.old r → IsRunner W world self.new (steps_on W world result r) }
-        ensures goes_on { (world : World) (r : RunState) → world.notes ≡ notes.now → world.script ≡ script.now → IsRunner W world self.old r → GoesOnFor W world result r }
+        ensures steps { (world : World) (r : RunState) → world.notes ≡ notes.now → world.script ≡ script.now → IsRunner W world self.old r →
+            IsRunner W world self.new (steps_on W world result r) }
+        ensures goes_on { (world : World) (r : RunState) → world.notes ≡ notes.now → world.script ≡ script.now →
+            IsRunner W world self.old r → GoesOnFor W world result r }
         ensures some { 0 < result }
         ensures most { result ≤ most }
     {
@@ -162,7 +168,8 @@ impl<const W: usize> Runner<W> {
         requires width { IsWidth W }
         requires ready { IsReady W notes.now script.now self.old }
         requires quiet { IsQuiet script.now self.old }
-        ensures host { (world : World) (r : RunState) → result ≡ None → world.notes ≡ notes.now → world.script ≡ script.now → IsAt W world self.old r → IsAt W world self.new (running_step W world (own_placement W world) r) }
+        ensures host { (world : World) (r : RunState) → result ≡ None → world.notes ≡ notes.now → world.script ≡ script.now →
+            IsAt W world self.old r → IsAt W world self.new (running_step W world (own_placement W world) r) }
         ensures machine { IfSome result (IsMachines W script.now self.old self.new) }
         ensures quiet { IsQuiet script.now self.new }
         ensures capacity { vec_capacity self.old.host.trace ≤ vec_capacity self.new.host.trace }
@@ -196,7 +203,8 @@ impl<const W: usize> Runner<W> {
         requires width { IsWidth W }
         requires ready { IsReady W notes.now script.now self.old }
         requires inside { self.old.machine.ip ≢ self.old.machine.gate }
-        ensures host { (world : World) (r : RunState) → result ≡ None → world.notes ≡ notes.now → world.script ≡ script.now → IsAt W world self.old r → IsAt W world self.new (running_step W world (own_placement W world) r) }
+        ensures host { (world : World) (r : RunState) → result ≡ None → world.notes ≡ notes.now → world.script ≡ script.now →
+            IsAt W world self.old r → IsAt W world self.new (running_step W world (own_placement W world) r) }
         ensures machine { IfSome result (IsMachines W script.now self.old self.new) }
         ensures quiet { IsQuiet script.now self.new }
         ensures capacity { vec_capacity self.old.host.trace ≤ vec_capacity self.new.host.trace }
@@ -221,7 +229,8 @@ impl<const W: usize> Runner<W> {
 
     // Some instructions ahead, if no notification is due while fewer are done, and else none.
     fn quiet_ahead(&self, script: &Script) -> u64
-        ensures { (at : ScriptPlace) → at.notifications ≡ self.now.host.notifications → at.instructions < result → is_due script.now at ≡ false }
+        ensures { (at : ScriptPlace) → at.notifications ≡ self.now.host.notifications → at.instructions < result →
+            is_due script.now at ≡ false }
     {
         let ahead = self.done.saturating_add(AHEAD);
         if self.host.due(script, ahead) {
@@ -278,7 +287,8 @@ impl<const W: usize> Runner<W> {
     /// What the run shows: how many steps it took, where it stands, how it ended, or that it goes on, and its events, handed over.
     pub fn report(self) -> RunReport
         ensures steps { result.steps ≡ self.entry.taken }
-        ensures spot { (world : World) (r : RunState) → IsRunner W world self.entry r → result.spot ≡ spot_of world (own_placement W world) r.machine }
+        ensures spot { (world : World) (r : RunState) → IsRunner W world self.entry r →
+            result.spot ≡ spot_of world (own_placement W world) r.machine }
         ensures ending { (world : World) (r : RunState) → IsRunner W world self.entry r → result.ending ≡ r.ending }
         ensures events { (world : World) (r : RunState) → IsRunner W world self.entry r → result.events.items ≡ r.trace }
     {

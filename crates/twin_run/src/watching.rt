@@ -17,7 +17,8 @@ impl<const W: usize> Runner<W> {
     pub fn is_hosts_turn(&self, notes: &Notes, script: &Script) -> bool
         requires runs { Runs W notes.now script.now self.now }
         requires running { self.now.ending ≡ Running }
-        ensures { (world : World) (r : RunState) → world.script ≡ script.now → IsRunner W world self.now r → result ≡ is_hosts_turn world r }
+        ensures { (world : World) (r : RunState) → world.script ≡ script.now → IsRunner W world self.now r →
+            result ≡ is_hosts_turn world r }
     {
         if self.machine.ip == self.machine.gate {
             return true;
@@ -61,7 +62,8 @@ impl<const W: usize> Runner<W> {
 
     /// The bytes from an address to the end of the object that holds it, as they lie: none exactly where no object does.
     pub fn bytes_from(&self, addr: u64) -> Option<&[u8]>
-        ensures found { IfSome result (λ bytes. (world : World) (r : RunState) → IsRunner W world self.now r → rest_from r.machine addr ≡ Some bytes.now) }
+        ensures found { IfSome result (λ bytes. (world : World) (r : RunState) → IsRunner W world self.now r →
+            rest_from r.machine addr ≡ Some bytes.now) }
         ensures none { IfNone result ((world : World) (r : RunState) → IsRunner W world self.now r → rest_from r.machine addr ≡ None) }
     {
         self.mem.bytes_from(addr)

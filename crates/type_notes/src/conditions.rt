@@ -1,7 +1,11 @@
 //! The conditions on functions, signatures and sites by themselves.
 ghost use Rattle.std.specs.Prelude.{◌≡◌, ◌+◌, ◌-◌, ◌*◌, ◌<◌, ◌^◌, not};
 ghost use Rattle.std.specs.List.{position, list_all};
-ghost use Rattle.type_notes.specs.Conditions.{code_size, first_past, frame_size, gives_unhanded, has_item_thunk, has_many_locals, is_entered, is_natural_slot, keeps_param, keeps_params, keeps_want, keeps_wants, overflows, overfull, params_have_thunks, passes_params, regs_have_thunks, stack_has_thunks, takes_handed_in, takes_unhanded, thunkless, thunkless_points, too_large, unhanded, unkept, unpassed, unreturned};
+ghost use Rattle.type_notes.specs.Conditions.{code_size, first_past, frame_size, gives_unhanded, has_item_thunk, has_many_locals};
+ghost use Rattle.type_notes.specs.Conditions.{is_entered, is_natural_slot, keeps_param, keeps_params, keeps_want, keeps_wants, overflows};
+ghost use Rattle.type_notes.specs.Conditions.{overfull, params_have_thunks, passes_params, regs_have_thunks, stack_has_thunks};
+ghost use Rattle.type_notes.specs.Conditions.{takes_handed_in, takes_unhanded, thunkless, thunkless_points, too_large, unhanded, unkept};
+ghost use Rattle.type_notes.specs.Conditions.{unpassed, unreturned};
 ghost use Rattle.type_notes.specs.PointLocals.{locals_fields};
 ghost use Rattle.type_notes.specs.TypeKinds.{is_returned};
 

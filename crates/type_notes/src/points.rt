@@ -2,7 +2,8 @@
 ghost use Rattle.std.specs.Prelude.{◌≡◌, filter, length, map, nat_eq, Bool, IfOk};
 ghost use Rattle.std.specs.List.{find, list_all};
 ghost use Rattle.std.specs.Option.{option_map};
-ghost use Rattle.type_notes.specs.Conditions.{first_point, has_item_fields, holds_locals, is_locals, mislocated, regs_are_local, stack_is_local, unfielded, written_is_local};
+ghost use Rattle.type_notes.specs.Conditions.{first_point, has_item_fields, holds_locals, is_locals, mislocated, regs_are_local};
+ghost use Rattle.type_notes.specs.Conditions.{stack_is_local, unfielded, written_is_local};
 ghost use Rattle.note_draft.specs.declared.draft.PointDraft.{PointDraft};
 ghost use Rattle.type_notes.specs.PointLocals.{PointLocals, locals_of_function};
 ghost use Rattle.type_notes.specs.Owners.{AreOwners};

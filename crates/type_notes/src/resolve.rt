@@ -4,7 +4,10 @@ ghost use Rattle.std.specs.List.{position};
 ghost use Rattle.note_draft.specs.declared.tables.NameTables.{NameTables};
 ghost use Rattle.type_notes.specs.Locals.{IsFieldSet, field_bit, field_number, field_set};
 ghost use Rattle.type_notes.specs.Owners.{AreOwners};
-ghost use Rattle.type_notes.specs.Resolved.{resolved, resolved_cell, resolved_field, resolved_function, resolved_item, resolved_locals, resolved_param, resolved_point, resolved_result, resolved_shape, resolved_signature, resolved_site, resolved_static, resolved_thunk, resolved_type, resolved_want, resolved_want_param};
+ghost use Rattle.type_notes.specs.Resolved.{resolved, resolved_cell, resolved_field, resolved_function, resolved_item, resolved_locals};
+ghost use Rattle.type_notes.specs.Resolved.{resolved_param, resolved_point, resolved_result, resolved_shape, resolved_signature};
+ghost use Rattle.type_notes.specs.Resolved.{resolved_site, resolved_static, resolved_thunk, resolved_type, resolved_want};
+ghost use Rattle.type_notes.specs.Resolved.{resolved_want_param};
 
 use crate::points::resolve_points;
 use note_draft::{
@@ -501,7 +504,21 @@ fn notes_of_lists(
     lists: ListNotes,
     names: NameTables,
 ) -> Result<Notes, NoMemory>
-    ensures { IfOk result (λ notes. notes ≡ record { version = version; entry = entry; shape = lists.things.shape; statics = lists.things.statics; thunk = lists.things.thunk; function = lists.code.function; point = lists.code.point; signature = lists.calls.signature; site = lists.calls.site; methods = names.method }) }
+    ensures { IfOk result (λ notes.
+        notes ≡ record {
+          version = version;
+          entry = entry;
+          shape = lists.things.shape;
+          statics = lists.things.statics;
+          thunk =
+              lists.things.thunk;
+          function = lists.code.function;
+          point = lists.code.point;
+          signature = lists.calls.signature;
+          site =
+              lists.calls.site;
+          methods = names.method;
+        }) }
 {
     let methods = methods_of(alloc, names)?;
     let ListNotes {

@@ -1,7 +1,8 @@
 //! Which types notes allow where.
 ghost use Rattle.std.specs.Prelude.{◌≡◌};
 ghost use Rattle.std.specs.List.{list_all};
-ghost use Rattle.type_notes.specs.TypeKinds.{has_fields, has_thunk, is_handed_back, is_bare, is_handed_in, is_kept, is_kept_want, is_narrow, is_not_negative, is_passed, is_returned};
+ghost use Rattle.type_notes.specs.TypeKinds.{has_fields, has_thunk, is_handed_back, is_bare, is_handed_in, is_kept, is_kept_want};
+ghost use Rattle.type_notes.specs.TypeKinds.{is_narrow, is_not_negative, is_passed, is_returned};
 ghost use Rattle.type_notes.specs.Locals.{is_field};
 ghost use Rattle.note_types.specs.Types.{is_start};
 

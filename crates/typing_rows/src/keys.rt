@@ -41,7 +41,8 @@ pub struct Spot {
 }
 
 impl FromTable for Spot {
-    ghost reads_as = { λ prefix table. number_at prefix (codes "place") 0 9 table >>= (λ n. only_keys prefix (codes "place" ∷ []) table >>= (λ _. Ok (record { place = n }))) };
+    ghost reads_as = { λ prefix table. number_at prefix (codes "place") 0 9 table >>=
+        (λ n. only_keys prefix (codes "place" ∷ []) table >>= (λ _. Ok (record { place = n }))) };
 
     fn from_table(alloc: Global, row: Row) -> Result<Self, NotesEnd> {
         let place = row.number(alloc, "place", 0, 9)?;

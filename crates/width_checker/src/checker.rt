@@ -151,7 +151,8 @@ pub fn check(alloc: Global, image: &Image, notes: &Notes) -> Result<Verdict, NoM
     requires notes { IsNotes notes.now }
     ensures verdict { IfOk result (IsVerdict image.now notes.now) }
     ensures neutral { IfOk result (λ v. v ≡ Verdict.Neutral ↔ Typed image.now notes.now) }
-    ensures refused { IfOk result (λ v. (place : ℕ) (rule : RuleName) → v ≡ Verdict.Refused place rule ↔ IsRefused image.now notes.now place rule) }
+    ensures refused { IfOk result (λ v. (place : ℕ) (rule : RuleName) →
+        v ≡ Verdict.Refused place rule ↔ IsRefused image.now notes.now place rule) }
 {
     let mut checker = Checker::reserve(alloc, image, notes)?;
     Ok(checker.run(image, notes))

@@ -129,7 +129,8 @@ impl<'a> Walk<'a> {
         requires decode { IsDecoded self.now.image.now self.now.f.now at insn.now next }
         requires within { at < self.now.f.now.end }
         requires stands { StandsAt self.now.image.now self.now.notes.now self.now.func self.now.f.now at marks.old state.old }
-        ensures passes { OnOk result (Passes self.now.image.now self.now.notes.now self.now.func self.now.f.now at next marks.new state.new) }
+        ensures passes { OnOk result (Passes self.now.image.now self.now.notes.now self.now.func self.now.f.now at next marks.new
+            state.new) }
         ensures fails { IfErr result (IsFirst (FailsAt self.now.image.now self.now.notes.now self.now.func self.now.f.now at)) }
     {
         let arrived_below = arrive(self.notes, at, marks, state);
@@ -179,7 +180,8 @@ impl<'a> Walk<'a> {
         requires from { self.now.f.now.place ≤ at }
         requires within { at < self.now.f.now.end }
         requires stands { StandsAt self.now.image.now self.now.notes.now self.now.func self.now.f.now at marks.old state.old }
-        ensures passes { IfOk result (λ next. Passes self.now.image.now self.now.notes.now self.now.func self.now.f.now at next marks.new state.new) }
+        ensures passes { IfOk result (λ next.
+            Passes self.now.image.now self.now.notes.now self.now.func self.now.f.now at next marks.new state.new) }
         ensures fails { IfErr result (IsFirst (FailsAt self.now.image.now self.now.notes.now self.now.func self.now.f.now at)) }
     {
         let Ok((insn, len)) = decode(code, (at - self.f.place) as usize) else {
@@ -196,7 +198,8 @@ impl<'a> Walk<'a> {
         requires notes { IsNotes self.now.notes.now }
         requires there { slice_get self.now.notes.now.function self.now.func ≡ Some self.now.f.now }
         requires holds { IsFunction self.now.image.now self.now.notes.now self.now.func self.now.f.now }
-        ensures meets { OnOk result ((p : ℕ) → IsPlaceOf self.now.image.now self.now.f.now p → MeetsRules self.now.image.now self.now.notes.now self.now.func self.now.f.now p) }
+        ensures meets { OnOk result ((p : ℕ) → IsPlaceOf self.now.image.now self.now.f.now p →
+            MeetsRules self.now.image.now self.now.notes.now self.now.func self.now.f.now p) }
         ensures fails { IfErr result (FailsIn self.now.image.now self.now.notes.now self.now.func self.now.f.now) }
     {
         let code = code_of(self.image, self.f);
