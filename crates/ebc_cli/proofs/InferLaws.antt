@@ -5,7 +5,7 @@ use Rattle.ebc_cli.proofs.Common.{inferred_reply}
 use Rattle.note_infer.specs.Inferred.{IsInferred, by_number, by_points, by_round, by_tables}
 use Rattle.note_infer.specs.{Inferred.by_verdict, Rounds.with_points}
 use Rattle.note_types.specs.declared.{notes.Point.Point, state.State.State}
-use Rattle.point_texts.specs.PrintedStates.{points_text}
+use Rattle.printed_texts.specs.PrintedStates.{points_text}
 use Rattle.ebc_cli.specs.Inferrings.{TellsInferred}
 use Rattle.ebc_cli.proofs.{AnswerLaws.Answered, AnswerLaws.can-be-done, AnswerLaws.replied, WorkLemmas.infer-work}
 use Rattle.cli_base.specs.declared.outcome.Outcome.TheVariants as outcomes

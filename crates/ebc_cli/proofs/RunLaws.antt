@@ -6,7 +6,7 @@ use Rattle.std.proofs.Common.{codes}
 use Rattle.host_model.specs.{Runs.world_of, Scripts.IsScript}
 use Rattle.pair_host.specs.PairDiffers.{PairsDifferAt}
 use Rattle.pair_host.proofs.PairDiffering.{one_pair_differs, typed_pairs_never_differ}
-use Rattle.run_texts.specs.RunTexts.{differ_line, twin_text}
+use Rattle.printed_texts.specs.RunTexts.{differ_line, twin_text}
 use Rattle.twin_run.specs.Differs.{DifferAt}
 use Rattle.twin_run.proofs.{Differing.one_differs, Runs.typed_never_differ}
 use Rattle.pair_laws.proofs.Typed.{typed_pairs_are_same}

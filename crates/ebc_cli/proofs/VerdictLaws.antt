@@ -7,7 +7,7 @@ use Rattle.plain_check.proofs.{Rules.neutral-exactly, Runs.neutral-alike}
 use Rattle.twin_run.proofs.Runs.{neutral_is_same}
 use Rattle.width_checker.specs.Verdicts.{IsRefused}
 use Rattle.ebc_cli.specs.{Answers.SameForScripts, Texts.neutral_line, Works.TellsVerdict}
-use Rattle.run_texts.specs.Refusals.{refused_line}
+use Rattle.printed_texts.specs.Refusals.{refused_line}
 use Rattle.ebc_cli.proofs.{AnswerLaws.Answered, AnswerLaws.can-be-done, AnswerLaws.replied, WorkLemmas.code-work, WorkLemmas.image-work}
 use Rattle.plain_check.specs.PlainRules as plain
 use Rattle.cli_base.specs.declared.outcome.Outcome.TheVariants as outcomes

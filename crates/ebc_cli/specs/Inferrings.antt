@@ -6,12 +6,12 @@ use Rattle.note_infer.specs.declared.inferred.Inferred.TheVariants.{Points, Stuc
 use Rattle.note_types.specs.declared.notes.Notes.{Notes}
 use Rattle.note_types.specs.declared.state.State.{State}
 use Rattle.pe_image.specs.declared.image.Image.{Image}
-use Rattle.point_texts.specs.PrintedStates.{points_text, state_text}
+use Rattle.printed_texts.specs.PrintedStates.{points_text, state_text}
 use Rattle.cli_base.specs.declared.outcome.Outcome.TheVariants as outcomes
 use Rattle.cli_base.specs.declared.reply.Reply.{Reply}
 use Rattle.cli_base.specs.Outputs.{prints}
 use Rattle.cli_base.specs.Readings.{large_reply}
-use Rattle.run_texts.specs.Refusals.{refused_line}
+use Rattle.printed_texts.specs.Refusals.{refused_line}
 
 -- the lines of the state in which the instruction at a place fails, where it has one
 abbrev pub stuck_lines : Notes → ℕ → Option State → List ℕ

@@ -14,8 +14,8 @@ use Rattle.pair_host.specs.declared.reports.PairRun.{PairRun}
 use Rattle.pair_model.specs.Pairs.{Both, PairWorld}
 use Rattle.pair_model.specs.declared.bind.Bind.{Bind}
 use Rattle.pe_image.specs.declared.image.Image.{Image}
-use Rattle.run_texts.specs.PairTexts.{pair_run_text}
-use Rattle.run_texts.specs.RunTexts.{twin_text}
+use Rattle.printed_texts.specs.PairTexts.{pair_run_text}
+use Rattle.printed_texts.specs.RunTexts.{twin_text}
 use Rattle.cli_base.specs.declared.reply.Reply.{Reply}
 use Rattle.cli_base.specs.Outputs.{prints}
 use Rattle.cli_base.specs.Readings.{FileReading, done, ◌>>=◌, told}

@@ -4,7 +4,7 @@ use Rattle.std.specs.Fmt.{decimal}
 use Rattle.asm_text.specs.Numbers.{hex_text}
 use Rattle.option_rom.specs.declared.image.EfiPart.{EfiPart}
 use Rattle.option_rom.specs.declared.image.RomImage.{RomImage}
-use Rattle.run_texts.specs.RunTexts.{place_text}
+use Rattle.printed_texts.specs.RunTexts.{place_text}
 
 -- four hexadecimal digits
 unfoldable pub machine_text : ℕ → List ℕ

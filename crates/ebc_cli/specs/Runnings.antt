@@ -5,7 +5,7 @@ use Rattle.host_model.specs.Runs.{world_of}
 use Rattle.note_types.specs.declared.notes.Notes.{Notes}
 use Rattle.note_types.specs.declared.script.Script.{Script}
 use Rattle.pe_image.specs.declared.image.Image.{Image}
-use Rattle.run_texts.specs.RunTexts.{run_text, twin_text}
+use Rattle.printed_texts.specs.RunTexts.{run_text, twin_text}
 use Rattle.twin_run.specs.Differs.{DifferAt}
 use Rattle.twin_run.specs.Reported.{IsReport}
 use Rattle.twin_run.specs.declared.reports.RunReport.{RunReport}

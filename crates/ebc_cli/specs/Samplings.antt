@@ -3,8 +3,8 @@ use Rattle.std.specs.Prelude.{◌≡◌, ℕ, List, [], ◌∷◌, length, Resul
 use Rattle.ebc_base.specs.Steps.{◌>>=◌}
 use Rattle.pe_image.specs.declared.image.Image.{Image}
 use Rattle.plain_check.specs.declared.verdict.Verdict.{Verdict}
-use Rattle.run_texts.specs.RunTexts.{differ_line}
-use Rattle.sample_texts.specs.Samples.{ending_number, notes_text, sample_line, sample_plan, script_text, source_text}
+use Rattle.printed_texts.specs.RunTexts.{differ_line}
+use Rattle.printed_texts.specs.Samples.{ending_number, notes_text, sample_line, sample_plan, script_text, source_text}
 use Rattle.twin_run.specs.declared.reports.TwinReport.{TwinReport}
 use Rattle.width_checker.specs.Verdicts.{IsVerdict}
 use Rattle.cli_base.specs.declared.outcome.Outcome.TheVariants.{Done}

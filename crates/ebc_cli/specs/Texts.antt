@@ -2,8 +2,8 @@
 use Rattle.std.specs.Prelude.{ℕ, List, ◌++◌, codes}
 use Rattle.plain_check.specs.declared.verdict.Verdict.{Verdict}
 use Rattle.plain_check.specs.declared.verdict.Verdict.TheVariants.{Neutral, Refused}
-use Rattle.run_texts.specs.Refusals.{rule_text}
-use Rattle.run_texts.specs.RunTexts.{place_text}
+use Rattle.printed_texts.specs.Refusals.{rule_text}
+use Rattle.printed_texts.specs.RunTexts.{place_text}
 
 abbrev pub neutral_line : List ℕ
 neutral_line = codes "neutral\n"

@@ -37,7 +37,7 @@ use Rattle.ebc_cli.specs.RomTexts.{rom_listing}
 use Rattle.ebc_cli.specs.Runnings.{run_files, TellsRun, TellsTwin}
 use Rattle.ebc_cli.specs.Samplings.{TellsSample, sample_of}
 use Rattle.ebc_cli.specs.Texts.{neutral_line, usage_line}
-use Rattle.run_texts.specs.Refusals.{refused_line}
+use Rattle.printed_texts.specs.Refusals.{refused_line}
 
 -- how many bytes plain code may have: 256 KiB
 abbrev pub plain_code_limit : ℕ

@@ -5,7 +5,7 @@ ghost use Rattle.ebc_cli.specs.Inferrings.{TellsInferred, inferred_reply, stuck_
 ghost use Rattle.cli_base.specs.Inputs.{IsReadImage};
 ghost use Rattle.cli_base.specs.Outcomes.{IsWorkAnswer};
 ghost use Rattle.cli_base.specs.Outputs.{prints, written_name};
-ghost use Rattle.run_texts.specs.Refusals.{refused_line};
+ghost use Rattle.printed_texts.specs.Refusals.{refused_line};
 
 use cli_base::text::{large, printed};
 use cli_base::{Outcome, Reply};
@@ -13,8 +13,7 @@ use ebc_base::NoMemory;
 use note_infer::{Inferred, infer};
 use note_types::{Notes, State};
 use pe_image::Image;
-use point_texts::{points_text, state_text};
-use run_texts::refused_line;
+use printed_texts::{points_text, refused_line, state_text};
 use std::alloc::Global;
 use width_checker::RuleName;
 

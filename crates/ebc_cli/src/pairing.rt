@@ -23,7 +23,7 @@ use file_inputs::text::bad_notes;
 use note_types::{Notes, NotesEnd, Script, TomlFault};
 use pair_host::{Binds, PairReport, pair};
 use pe_image::Image;
-use run_texts::{ShownPair, pair_text};
+use printed_texts::{ShownPair, pair_text};
 use std::alloc::Global;
 
 /// How many steps the run of a pair may be asked for.

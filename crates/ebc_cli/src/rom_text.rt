@@ -4,7 +4,7 @@ ghost use Rattle.ebc_cli.specs.RomTexts.{compression_text, efi_text, last_mark, 
 
 use ebc_base::NoMemory;
 use option_rom::{EfiPart, RomImage};
-use run_texts::Place;
+use printed_texts::Place;
 use std::alloc::{AllocError, Global};
 use std::fmt;
 

@@ -23,8 +23,8 @@ use file_inputs::read_as;
 use file_inputs::text::bad_notes;
 use note_types::{Notes, NotesEnd, Script};
 use pe_image::Image;
+use printed_texts::{ShownRun, run_text, twin_text};
 use protocol_script::read_script;
-use run_texts::{ShownRun, run_text, twin_text};
 use std::alloc::Global;
 use twin_run::{RunReport, TwinReport, run, twin};
 

@@ -6,7 +6,7 @@ ghost use Rattle.ebc_cli.specs.Works.{verdict_reply, listing_reply, file_reply, 
 use cli_base::text::printed;
 use cli_base::{Outcome, Output, Reply};
 use ebc_base::{Name, Sequence};
-use run_texts::{Place, refused_line, rule_text};
+use printed_texts::{Place, refused_line, rule_text};
 use std::alloc::{AllocError, Global};
 use width_checker::{RuleName, Verdict};
 

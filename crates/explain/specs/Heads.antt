@@ -5,7 +5,7 @@ use Rattle.cli_base.specs.declared.outcome.Outcome.TheVariants.{BadWords, BadInp
 use Rattle.ebc_outside.specs.Files.{Files}
 use Rattle.note_types.specs.declared.rule.RuleName.{RuleName}
 use Rattle.note_types.specs.declared.rule.RuleName.TheVariants as rules
-use Rattle.run_texts.specs.Refusals.{rule_text}
+use Rattle.printed_texts.specs.Refusals.{rule_text}
 use Rattle.explain_answers.specs.Words.{checks_code, name_of, names_objects, word_at}
 use Rattle.explain_answers.specs.declared.program.Program.{Program}
 use Rattle.explain_answers.specs.declared.program.Program.TheVariants as programs

@@ -6,8 +6,7 @@ ghost use Rattle.explain.specs.Places.{number_text, place_in};
 
 use ebc_base::NoMemory;
 use note_types::{Notes, RuleName};
-use point_texts::function_at;
-use run_texts::rule_text;
+use printed_texts::{function_at, rule_text};
 use std::alloc::Global;
 use std::fmt;
 

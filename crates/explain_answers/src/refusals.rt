@@ -21,7 +21,7 @@ use note_filling::Filled;
 use note_infer::{Inferred, infer};
 use note_types::{Notes, RuleName, State};
 use pe_image::Image;
-use point_texts::state_text;
+use printed_texts::state_text;
 use state_walk::{Before, before, given};
 use std::alloc::Global;
 

@@ -3,7 +3,7 @@
 use crate::answer::Answer;
 use explain_base::{Line, Said};
 use note_types::RuleName;
-use run_texts::rule_text;
+use printed_texts::rule_text;
 
 // What a rule refuses, in short. docs/RULES.md, "The verdict".
 fn sentence(rule: RuleName) -> &'static str {

@@ -18,8 +18,8 @@ use file_inputs::read_as;
 use note_types::{Notes, Spot};
 use pair_host::{Binds, PairRun, pair};
 use pe_image::Image;
+use printed_texts::{ShownPair, ShownRun, append_end};
 use protocol_script::read_script;
-use run_texts::{ShownPair, ShownRun, append_end};
 use std::alloc::Global;
 use twin_run::{RunReport, run};
 

@@ -2,7 +2,7 @@
 
 use crate::line::Line;
 use note_types::Notes;
-use point_texts::function_at;
+use printed_texts::function_at;
 
 impl Line {
     /// Adds a place: `main+0x12` by the function that it lies in, or `0x1234` where no function of the notes has it.

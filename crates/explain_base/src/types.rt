@@ -2,7 +2,7 @@
 
 use crate::line::Line;
 use note_types::{Cell, FnNote, Item, Notes, SlotKind, Ty, content_type};
-use point_texts::type_text;
+use printed_texts::type_text;
 use rules_base::{Access, local_fields};
 
 /// By which instructions a cell is loaded and stored.

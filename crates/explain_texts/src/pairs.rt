@@ -5,7 +5,7 @@ use ebc_base::NoMemory;
 use explain_base::Said;
 use note_types::{Ending, Event, Notes, Reason};
 use pair_model::{Bind, PairEvent};
-use run_texts::ShownPair;
+use printed_texts::ShownPair;
 use std::alloc::Global;
 
 /// Two programs that ran on one host, with their binds.

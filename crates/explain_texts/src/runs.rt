@@ -6,7 +6,7 @@ use crate::values::{made_objects, write_ending, write_entering, write_seen};
 use ebc_base::NoMemory;
 use explain_base::{Line, Said};
 use note_types::{Ending, Event, Notes, Reason, Script, Seen, Spot};
-use run_texts::ShownRun;
+use printed_texts::ShownRun;
 use std::alloc::Global;
 use toml_spans::KeySpan;
 

@@ -7,9 +7,8 @@ use note_types::{
     Cell, Ending, Field, FnNote, Notes, Param, Script, Seen, Shape, Signature, Spot, Ty, Value,
     Want, WantParam,
 };
-use point_texts::type_text;
+use printed_texts::{append_end, type_text};
 use protocol_script::{function_number, method_number};
-use run_texts::append_end;
 use script_draft::{ObjectDraft, ScriptDraft, ValueText};
 
 /// Writes a type that names no local fields, as notes spell it.

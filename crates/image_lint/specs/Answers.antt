@@ -6,7 +6,7 @@ use Rattle.image_warnings.specs.declared.warning.Warning.{Warning}
 use Rattle.note_types.specs.declared.notes.Notes.{Notes}
 use Rattle.note_types.specs.declared.rule.RuleName.{RuleName}
 use Rattle.pe_image.specs.declared.image.Image.{Image}
-use Rattle.run_texts.specs.Refusals.{refused_line}
+use Rattle.printed_texts.specs.Refusals.{refused_line}
 use Rattle.width_checker.specs.Typed.{Typed}
 use Rattle.width_checker.specs.Verdicts.{IsRefused}
 use Rattle.cli_base.specs.declared.outcome.Outcome.{Outcome}

@@ -4,7 +4,7 @@ use Rattle.std.specs.List.{flat_map}
 use Rattle.image_warnings.specs.declared.warning.Kind.{Kind}
 use Rattle.image_warnings.specs.declared.warning.Kind.TheVariants as kinds
 use Rattle.image_warnings.specs.declared.warning.Warning.{Warning}
-use Rattle.run_texts.specs.RunTexts.{place_text}
+use Rattle.printed_texts.specs.RunTexts.{place_text}
 
 -- a kind by its name
 abbrev pub kind_text : Kind → List ℕ

@@ -20,7 +20,7 @@ use file_inputs::read_image_with_notes;
 use image_warnings::warnings;
 use note_types::Notes;
 use pe_image::Image;
-use run_texts::refused_line;
+use printed_texts::refused_line;
 use std::alloc::{AllocError, Global};
 use width_checker::{Verdict, check};
 

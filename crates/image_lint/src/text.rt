@@ -3,7 +3,7 @@ ghost use Rattle.std.specs.Prelude.{◌≡◌, ◌++◌, IfOk, OnOk};
 ghost use Rattle.image_lint.specs.Texts.{kind_text, warning_line, warning_lines};
 
 use image_warnings::{Kind, Warning};
-use run_texts::Place;
+use printed_texts::Place;
 use std::alloc::{AllocError, Global};
 
 /// The name of a kind of warning, as it is printed.

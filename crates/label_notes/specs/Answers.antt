@@ -13,7 +13,7 @@ use Rattle.note_completion.specs.declared.completion.Completion.{Completion}
 use Rattle.note_completion.specs.declared.completion.Completion.TheVariants as completions
 use Rattle.pe_image.specs.Images.{IsImage}
 use Rattle.pe_image.specs.declared.image.Image.{Image}
-use Rattle.run_texts.specs.Refusals.{refused_line}
+use Rattle.printed_texts.specs.Refusals.{refused_line}
 use Rattle.cli_base.specs.declared.outcome.Outcome.{Outcome}
 use Rattle.cli_base.specs.declared.outcome.Outcome.TheVariants as outcomes
 use Rattle.cli_base.specs.declared.reply.Reply.{Reply}

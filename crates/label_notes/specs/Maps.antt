@@ -6,7 +6,7 @@ use Rattle.std.specs.List.Sorted.{IsSortedByKey, IsStableByKey}
 use Rattle.std.specs.Ordering.{nat_cmp}
 use Rattle.ebc_base.specs.Tables.{is_named}
 use Rattle.label_places.specs.declared.label.Label.{Label}
-use Rattle.run_texts.specs.RunTexts.{place_text}
+use Rattle.printed_texts.specs.RunTexts.{place_text}
 
 -- where a label stands
 abbrev pub place_of : Label → ℕ

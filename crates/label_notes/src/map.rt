@@ -6,7 +6,7 @@ ghost use Rattle.label_notes.specs.Maps.{AreInOrder, IsMap, label_line, label_te
 use crate::shared::shared_names;
 use ebc_base::{Name, NameTable, NoMemory};
 use label_places::Label;
-use run_texts::Place;
+use printed_texts::Place;
 use std::alloc::{AllocError, Global};
 
 // A name of a label, behind that of its object.

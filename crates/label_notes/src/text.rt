@@ -3,7 +3,7 @@ ghost use Rattle.std.specs.Prelude.{◌≡◌, ◌++◌, IfOk};
 ghost use Rattle.cli_base.specs.Inputs.{bad_reply};
 ghost use Rattle.cli_base.specs.Outputs.{prints};
 ghost use Rattle.file_inputs.specs.Faults.{key_path, toml_fault_number, toml_fault_text};
-ghost use Rattle.run_texts.specs.Refusals.{refused_line};
+ghost use Rattle.printed_texts.specs.Refusals.{refused_line};
 ghost use Rattle.label_notes.specs.Answers.{completion_reply};
 
 use crate::mark::mark_of;
@@ -14,7 +14,7 @@ use ebc_base::NoMemory;
 use file_inputs::{key_path, toml_fault_number, toml_fault_text};
 use note_completion::{Completion, Flaw, Linked};
 use note_types::{RuleName, TomlFault};
-use run_texts::refused_line;
+use printed_texts::refused_line;
 use std::alloc::{AllocError, Global};
 
 // The answer where the text of the name has a fault, with more behind its path.

@@ -15,7 +15,7 @@ use note_infer::{Inferred, infer};
 use note_texts::document;
 use note_types::{Notes, NotesEnd, Site, State};
 use pe_image::Image;
-use point_texts::{points_text, state_text};
+use printed_texts::{points_text, state_text};
 use site_finder::find_sites;
 use std::alloc::Global;
 use toml::Value;

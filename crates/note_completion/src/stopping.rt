@@ -17,7 +17,7 @@ use ebc_base::NoMemory;
 use note_filling::has_items;
 use note_infer::{Inferred, infer};
 use note_types::State;
-use point_texts::points_text;
+use printed_texts::points_text;
 use std::alloc::Global;
 
 /// Where a text stops short of complete notes.

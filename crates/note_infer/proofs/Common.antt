@@ -12,7 +12,7 @@ pub use Rattle.pe_image.specs.declared.image.Image.{Image}
 pub use Rattle.note_types.specs.{Known.IsState, Limits.point_limit, Notes.entry_state, Records.IsNotes, Records.Each, Records.IsPointNote}
 pub use Rattle.note_types.specs.declared.{notes.FnNote.FnNote, notes.Notes.Notes, notes.Point.Point, rule.RuleName.RuleName}
 pub use Rattle.note_types.specs.declared.{state.State.State, types.Ty.Ty}
-pub use Rattle.note_join.specs.JoinStates.{without_fact, taken_in}
+pub use Rattle.note_infer.specs.JoinStates.{without_fact, taken_in}
 pub use Rattle.rules_base.specs.{FirstRule.IsFirst, Outcomes.OrRule}
 pub use Rattle.rules_flow.specs.declared.successors.Successors.{Successors}
 pub use Rattle.rules_image.specs.Images.{IsDecoded, PointHolds, EndHolds, RelocationHolds, FunctionHolds}
@@ -33,7 +33,7 @@ pub use Rattle.note_infer.specs.{RoundEnds.leaders_rank, Rounds.by_jump, Startin
 pub use Rattle.note_infer.specs.declared.inferred.Inferred.{Inferred, TheVariants.Stuck}
 pub use Rattle.note_infer.specs.declared.{inferred.Inferred.TheVariants.Points, inferred.Inferred.TheVariants.Many, rounds.Start.Start}
 unfoldable pub use Rattle.note_types.specs.{Known.local_fields, Records.function_at}
-unfoldable pub use Rattle.note_join.specs.JoinStates.{agree, joined}
+unfoldable pub use Rattle.note_infer.specs.JoinStates.{agree, joined}
 unfoldable pub use Rattle.rules_image.specs.Images.{reloc_at}
 unfoldable pub use Rattle.width_checker.specs.Rows.{row_of}
 unfoldable pub use Rattle.note_infer.specs.{Coming.state_at, Inferred.points_of, Reaching.origin, Rounds.HasCome, Rounds.all_in}

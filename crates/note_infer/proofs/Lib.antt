@@ -8,6 +8,7 @@ pub mod Failing
 pub mod Found
 pub mod Gathering
 pub mod Going
+pub mod Joins
 pub mod Lone
 pub mod OneAnswer
 pub mod OneRound
@@ -22,6 +23,11 @@ pub mod RoundLaws
 pub mod RoundStates
 pub mod Rounding
 pub mod Searching
+pub mod Sets
+pub mod SettledStates
+pub mod SettledTypes
 pub mod Settling
+pub mod StateJoins
 pub mod StatesAt
 pub mod Turning
+pub mod TypeJoins

@@ -7,8 +7,8 @@ use Rattle.note_infer.proofs.Common.{leaders_rank}
 use Rattle.std.proofs.{Common.◌*◌, lemmas.Nat.ones-le}
 use Rattle.std.specs.Int.RustNames.{count_ones}
 use Rattle.note_types.specs.declared.items.Item.{Item, TheVariants.Slot, TheVariants.Locals}
-use Rattle.note_join.specs.Ranks.{item_rank, leader_rank, most_rank, register_rank, state_rank, summed}
-use Rattle.note_join.proofs.{StateJoins.state_weakens, TypeJoins.rank-most}
+use Rattle.note_infer.specs.Ranks.{item_rank, leader_rank, most_rank, register_rank, state_rank, summed}
+use Rattle.note_infer.proofs.{StateJoins.state_weakens, TypeJoins.rank-most}
 
 -- ---- what a state says at most
 

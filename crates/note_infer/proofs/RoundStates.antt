@@ -17,7 +17,7 @@ use Rattle.rules_laws.proofs.FieldsKept.{flow_kept}
 use Rattle.rules_base.specs.Outcomes.{gives_map}
 use Rattle.width_checker.specs.Rows.{is_flow}
 use Rattle.note_infer.proofs.OtherPoints.{state_is}
-use Rattle.note_join.proofs.StateJoins.{states_below}
+use Rattle.note_infer.proofs.StateJoins.{states_below}
 
 -- ---- rows
 

@@ -2,8 +2,8 @@
 use Rattle.note_infer.proofs.Common.{◌≡◌, zero, suc, List, [], ◌∷◌, refl, sym, ap, subst, ◌∙◌, Option, None, Some, option_and_then}
 use Rattle.note_infer.proofs.Common.{none-some, same_Some, FnNote, Notes, State, taken_in, without_fact, IsFound, all_in, Settles}
 use Rattle.note_infer.proofs.Common.{SettlesAll}
-use Rattle.note_join.specs.JoinStates.{join_states}
-use Rattle.note_join.proofs.SettledStates.{first_again, states_again, states_settled}
+use Rattle.note_infer.specs.JoinStates.{join_states}
+use Rattle.note_infer.proofs.SettledStates.{first_again, states_again, states_settled}
 use Rattle.note_infer.proofs.{RoundStates.AllFound, RoundStates.SomeFound, RoundStates.all_in-found, StatesAt.all_one}
 
 -- the first of several states that are joined in, and the others

@@ -4,7 +4,7 @@ use Rattle.std.specs.Prelude.{slice_index_or, slice_set}
 use Rattle.std.specs.List.{Contains}
 use Rattle.note_types.specs.declared.notes.FnNote.{FnNote}
 use Rattle.note_types.specs.declared.state.State.{State}
-use Rattle.note_join.specs.JoinStates.{taken_in}
+use Rattle.note_infer.specs.JoinStates.{taken_in}
 use Rattle.note_infer.specs.Rounds.{IsWithin, States, all_in}
 use Rattle.note_infer.specs.declared.coming.Coming.{Coming}
 

@@ -4,10 +4,14 @@ pub mod Coming
 pub mod Entering
 pub mod Finding
 pub mod Inferred
+pub mod Join
+pub mod JoinLaws
+pub mod JoinStates
 pub mod Leaders
 pub mod Passing
 pub mod PointStates
 pub mod Promises
+pub mod Ranks
 pub mod Reaching
 pub mod Refusing
 pub mod RoundEnds

@@ -9,7 +9,7 @@ use Rattle.width_checker.specs.Typed.{Typed}
 use Rattle.note_infer.specs.declared.inferred.Inferred.TheVariants.{Points}
 use Rattle.note_infer.specs.Inferred.{IsInferred, points_of}
 use Rattle.note_infer.specs.Leaders.{AreLeaders}
-use Rattle.note_join.specs.Ranks.{most_rank}
+use Rattle.note_infer.specs.Ranks.{most_rank}
 use Rattle.note_infer.specs.RoundEnds.{leaders_rank}
 use Rattle.note_infer.specs.Rounds.{AreAfter, AreSame, IsRound, States, with_points}
 

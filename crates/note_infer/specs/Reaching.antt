@@ -10,7 +10,7 @@ use Rattle.pe_image.specs.declared.image.Image.{Image}
 use Rattle.rules_flow.specs.declared.successors.Successors.{Successors}
 use Rattle.rules_image.specs.Images.{EndHolds, IsDecoded, PointHolds, RelocationHolds, reloc_at}
 use Rattle.width_checker.specs.Rows.{here_at, row_of}
-use Rattle.note_join.specs.JoinStates.{join_states}
+use Rattle.note_infer.specs.JoinStates.{join_states}
 use Rattle.note_infer.specs.PointStates.{IsFound}
 use Rattle.note_infer.specs.Rounds.{Comes, FallsTo, HasCome, HasState, IsWithin, States, given, marked}
 

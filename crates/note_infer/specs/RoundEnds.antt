@@ -4,7 +4,7 @@ use Rattle.note_types.specs.declared.notes.FnNote.{FnNote}
 use Rattle.note_types.specs.declared.notes.Notes.{Notes}
 use Rattle.note_types.specs.declared.state.State.{State}
 use Rattle.pe_image.specs.declared.image.Image.{Image}
-use Rattle.note_join.specs.Ranks.{leader_rank, summed}
+use Rattle.note_infer.specs.Ranks.{leader_rank, summed}
 use Rattle.note_infer.specs.Rounds.{GivenAt, States}
 
 -- a state has as many registers, items and fields as there is room for

@@ -18,7 +18,7 @@ use Rattle.rules_flow.specs.declared.successors.Successors.{Successors}
 use Rattle.rules_image.specs.Images.{reloc_at}
 use Rattle.width_checker.specs.Rows.{here_at, row_of}
 use Rattle.width_checker.specs.Verdicts.{IsInsn}
-use Rattle.note_join.specs.JoinStates.{taken_in}
+use Rattle.note_infer.specs.JoinStates.{taken_in}
 
 -- ---- leaders as points
 

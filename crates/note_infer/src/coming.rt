@@ -4,14 +4,14 @@ ghost use Rattle.std.specs.Prelude.{◌≡◌, ◌<◌, ◌↔◌, ℕ, IfErr, I
 ghost use Rattle.std.specs.Prelude.{replicate, slice_index, slice_index_or, slice_set};
 ghost use Rattle.std.specs.List.{Contains};
 ghost use Rattle.std.specs.List.Sorted.{IsStrictlyIncreasing};
-ghost use Rattle.note_join.specs.JoinStates.{taken_in, without_fact};
+ghost use Rattle.note_infer.specs.JoinStates.{taken_in, without_fact};
 ghost use Rattle.note_infer.specs.Coming.{ClashesAt, IsComing, Takes, TakesNumber, given_to, state_at};
 ghost use Rattle.note_infer.specs.Refusing.{OnClash};
 ghost use Rattle.note_infer.specs.declared.coming.NotTaken.TheVariants as refusals;
 
+use crate::state_joins::join_states;
 use crate::states::same_state;
 use ebc_base::NoMemory;
-use note_join::join_states;
 use note_types::{CompactState, FnNote, State};
 use std::alloc::Global;
 

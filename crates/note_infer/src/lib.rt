@@ -41,6 +41,17 @@
 //!   before it.
 //! - `tables_hold`: whether the rules of shapes, functions, static objects and thunk cells hold (`TablesHold`).
 //! - `points_of`: the points at the leaders that have a state.
+//! - `join_types`: exactly the type of the table (`joined`); both types, within their bounds, are below it (`below`);
+//!   it names only what they name (`known`); it is the first type, or says less by a number from 0 to 9 (`weaker`,
+//!   `rank_of`); equal types give the type itself (`equal`).
+//! - `join_states`: exactly the join, or none where the states clash (`joined`); two states of a function are both
+//!   below it, and it is a state of the function (`below`); it is the first state, or says less by a number (`weaker`,
+//!   `state_rank`); a state with no fact and itself give that state (`equal`). It takes no memory.
+//! - `joins_settle`: a type that is within its bounds, or a state of a function, takes what was joined in a second time
+//!   without a change (`types_again`, `states_again`), also where others were joined in since (`types_settle`,
+//!   `states_settle`); and so does the first state that comes, without its fact (`first_again`). That a state is below
+//!   another one doesn't say so: the Ints 0 to 5 and 2 to 3 join to that from 0 to 2^31 - 1. So what is given again to
+//!   a place need not be joined in again.
 #![tactic(auto)]
 
 mod beginnings;
@@ -55,9 +66,12 @@ mod marks;
 mod promised;
 mod rounds;
 mod rows;
+mod settled_joins;
+mod state_joins;
 mod states;
 mod tables;
 mod turns;
+mod type_joins;
 mod walk;
 
 pub use ebc_base::NoMemory;
@@ -69,3 +83,6 @@ pub use leaders::find_leaders;
 pub use marks::marked;
 pub use promised::promises;
 pub use rows::row;
+pub use settled_joins::joins_settle;
+pub use state_joins::join_states;
+pub use type_joins::join_types;

@@ -1,12 +1,14 @@
 //! Whether two states are one.
 
 ghost use Rattle.std.specs.Prelude.{◌≡◌, ◌↔◌, IsTrue};
+ghost use Rattle.note_types.specs.BelowTests.{same_type};
 
 use note_types::{Fact, Item, State, Ty};
 
 // Whether two types are one.
-fn same_type(a: &Ty, b: &Ty) -> bool
-    ensures { IsTrue result ↔ (a.now ≡ b.now) }
+pub(crate) fn same_type(a: &Ty, b: &Ty) -> bool
+    ensures one { IsTrue result ↔ (a.now ≡ b.now) }
+    ensures test { result ≡ same_type a.now b.now }
 {
     *a == *b
 }

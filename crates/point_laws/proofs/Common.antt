@@ -47,11 +47,11 @@ pub use Rattle.point_laws.specs.PointTables.{draft_in, strings, tables_of}
 pub use Rattle.point_laws.specs.PointTables.{item_draft, members_in, members_of, point_draft, point_members, points_members, register_draft}
 pub use Rattle.point_laws.specs.PrintedPoints.{IsReading, with_printed}
 pub use Rattle.point_laws.specs.PrintedPoints.{PrintedPointsAreAccepted, PrintedPointsAreRead, PrintedPointsAreTables, PrintedPointsStand}
-pub use Rattle.point_texts.proofs.PrintedTypeLaws.{below_are, has, type_spelled}
-pub use Rattle.point_texts.specs.PrintedStates.{array_line, in_quotes, is_left_out, item_text, item_texts, register_text, register_texts}
-pub use Rattle.point_texts.specs.PrintedStates.{listed}
-pub use Rattle.point_texts.specs.PrintedTypes.{field_name, field_names, method_name, shape_name}
-pub use Rattle.point_texts.specs.NamedTypes.{HaveNames}
+pub use Rattle.printed_texts.proofs.PrintedTypeLaws.{below_are, has, type_spelled}
+pub use Rattle.printed_texts.specs.PrintedStates.{array_line, in_quotes, is_left_out, item_text, item_texts, register_text, register_texts}
+pub use Rattle.printed_texts.specs.PrintedStates.{listed}
+pub use Rattle.printed_texts.specs.PrintedTypes.{field_name, field_names, method_name, shape_name}
+pub use Rattle.printed_texts.specs.NamedTypes.{HaveNames}
 pub use Rattle.protocol_script.proofs.ReadLaws.{read_names}
 pub use Rattle.protocol_script.specs.PrintedLaw.{HasNames}
 pub use Rattle.rules_base.specs.Places.{has_field}
@@ -85,8 +85,9 @@ unfoldable pub use Rattle.note_texts.specs.Keys.{document, number_at, only_keys,
 unfoldable pub use Rattle.note_texts.specs.Lists.{array_at, each, list_at, rows_of, tables_at, texts_at, texts_beside_at, texts_of}
 unfoldable pub use Rattle.note_texts.specs.{CellTexts.field_of, SlotTexts.item_of, SlotTexts.register_of}
 unfoldable pub use Rattle.note_types.specs.{Known.local_fields, Records.function_at}
-unfoldable pub use Rattle.point_texts.specs.PrintedStates.{fields_at, point_text, told_up_to}
-unfoldable pub use Rattle.point_texts.specs.{NamedTypes.named_cell, NamedTypes.named_type, PrintedTypes.names_below, PrintedTypes.type_text}
+unfoldable pub use Rattle.printed_texts.specs.PrintedStates.{fields_at, point_text, told_up_to}
+unfoldable pub use Rattle.printed_texts.specs.{NamedTypes.named_cell, NamedTypes.named_type, PrintedTypes.names_below}
+unfoldable pub use Rattle.printed_texts.specs.{PrintedTypes.type_text}
 unfoldable pub use Rattle.toml.specs.{Parse.lines, Parse.parse_document, Tables.define}
 unfoldable pub use Rattle.toml_writer.specs.Text.{key_text}
 unfoldable pub use Rattle.type_notes.specs.Conditions.{first_point, thunkless_points, unmet}

@@ -13,9 +13,9 @@ use Rattle.note_texts.specs.declared.slot.ItemText.{ItemText}
 use Rattle.note_texts.specs.declared.slot.ItemText.TheVariants.{Slot, Locals}
 use Rattle.note_texts.specs.declared.slot.RegisterText.{RegisterText}
 use Rattle.note_draft.specs.declared.draft.PointDraft.{PointDraft}
-use Rattle.point_texts.specs.NamedTypes.{named_type}
-use Rattle.point_texts.specs.PrintedStates.{fields_at, item_texts, register_texts, told_up_to}
-use Rattle.point_texts.specs.PrintedTypes.{field_names}
+use Rattle.printed_texts.specs.NamedTypes.{named_type}
+use Rattle.printed_texts.specs.PrintedStates.{fields_at, item_texts, register_texts, told_up_to}
+use Rattle.printed_texts.specs.PrintedTypes.{field_names}
 
 -- ---- in TOML
 

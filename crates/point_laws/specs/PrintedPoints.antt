@@ -17,7 +17,7 @@ use Rattle.note_draft.specs.declared.tables.NameTables.{NameTables}
 use Rattle.type_notes.specs.Conditions.{conditions}
 use Rattle.type_notes.specs.Notes.{known_names, notes_in, notes_of}
 use Rattle.type_notes.specs.Resolved.{resolved, resolved_point}
-use Rattle.point_texts.specs.PrintedStates.{points_text}
+use Rattle.printed_texts.specs.PrintedStates.{points_text}
 use Rattle.point_laws.specs.PointTables.{point_draft, points_members}
 
 -- the points that the tables in a text stand for, under the names of notes and their draft

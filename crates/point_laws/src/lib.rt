@@ -1,4 +1,4 @@
-//! That what is printed of points is read as the points: from the text of `point_texts` through TOML, the keys of a
+//! That what is printed of points is read as the points: from the text of `printed_texts` through TOML, the keys of a
 //! point and the small texts at them, to names and their numbers. The crate has no code of its own.
 //!
 //! Promises:
@@ -26,7 +26,7 @@
 ghost use Rattle.point_laws.specs.PrintedPoints.{PrintedPointsAreAccepted, PrintedPointsAreRead, PrintedPointsAreTables};
 ghost use Rattle.point_laws.specs.PrintedPoints.{PrintedPointsStand};
 
-/// Under notes that a text stands for, what is printed of points of these notes (`points_text` of `point_texts`) is a document of TOML,
+/// Under notes that a text stands for, what is printed of points of these notes (`points_text` of `printed_texts`) is a document of TOML,
 /// and the points in it, read as those of notes are, are the points. Where these ascend by place, the reader accepts them in place of
 /// the notes' own, and a text that has them so stands for the notes with these points.
 pub fn printed_points_are_read()

@@ -1,7 +1,7 @@
 //! What has come to the leaders before they are walked from.
 
 use ebc_base::NoMemory;
-use note_join::join_states;
+use note_infer::join_states;
 use note_types::State;
 use std::alloc::Global;
 use std::mem;

@@ -13,7 +13,7 @@ use Rattle.note_types.specs.declared.spot.Spot.{Spot}
 use Rattle.note_types.specs.declared.spot.Spot.TheVariants as spot
 use Rattle.note_types.specs.declared.types.Ty.TheVariants as ty
 use Rattle.note_types.specs.declared.value.Value.TheVariants as value
-use Rattle.run_texts.specs.RunTexts.{place_text, wild_text}
+use Rattle.printed_texts.specs.RunTexts.{place_text, wild_text}
 use Rattle.script_draft.specs.Printed.{named_value, value_text}
 use Rattle.step_texts.specs.declared.meaning.Meaning.{Meaning}
 use Rattle.step_texts.specs.declared.meaning.Meaning.TheVariants as meaning

@@ -3,7 +3,7 @@ use Rattle.std.proofs.Common.{◌≡◌, [], ◌∷◌, ◌++◌, None, Some, co
 use Rattle.std.specs.Fmt.{digits}
 use Rattle.asm_text.specs.Numbers.{hex_text}
 use Rattle.note_types.specs.Records.{function_at}
-use Rattle.run_texts.specs.RunTexts.{place_text}
+use Rattle.printed_texts.specs.RunTexts.{place_text}
 use Rattle.step_texts.specs.declared.meaning.Meaning.TheVariants as meaning
 use Rattle.step_texts.specs.declared.meaning.Thing.TheVariants as thing
 use Rattle.step_texts.specs.declared.pointed.Cells.TheVariants as kinds

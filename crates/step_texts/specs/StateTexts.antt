@@ -5,7 +5,7 @@ use Rattle.std.specs.Option.{option_and_then, option_map_or}
 use Rattle.asm_text.specs.Numbers.{hex_text}
 use Rattle.note_types.specs.declared.notes.Notes.{Notes}
 use Rattle.note_types.specs.declared.notes.Signature.{Signature}
-use Rattle.run_texts.specs.RunTexts.{place_text}
+use Rattle.printed_texts.specs.RunTexts.{place_text}
 use Rattle.script_draft.specs.Printed.{function_name}
 use Rattle.step_texts.specs.StepTexts.{flag_line, meaning_part, register_lines}
 use Rattle.step_texts.specs.declared.state.Holdings.{Holdings}

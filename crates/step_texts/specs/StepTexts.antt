@@ -14,7 +14,7 @@ use Rattle.note_types.specs.declared.notes.Notes.{Notes}
 use Rattle.note_types.specs.declared.spot.Spot.{Spot}
 use Rattle.note_types.specs.declared.spot.Spot.TheVariants as spots
 use Rattle.note_types.specs.declared.value.Value.TheVariants as values
-use Rattle.run_texts.specs.RunTexts.{event_line, spot_text}
+use Rattle.printed_texts.specs.RunTexts.{event_line, spot_text}
 use Rattle.script_draft.specs.Printed.{value_text}
 use Rattle.step_texts.specs.declared.meaning.Meaning.{Meaning}
 use Rattle.step_texts.specs.declared.meaning.Meaning.TheVariants as meanings

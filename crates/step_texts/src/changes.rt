@@ -9,7 +9,7 @@ use crate::numbers::{Byte, Number};
 use crate::step::{Change, Stored};
 use crate::text::LINE_ROOM;
 use note_types::{Event, NoMemory, Notes};
-use run_texts::append_event;
+use printed_texts::append_event;
 use std::alloc::Global;
 
 /// Appends the events that a step added, each on a line of its own.

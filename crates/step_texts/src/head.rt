@@ -8,8 +8,7 @@ use crate::text::LINE_ROOM;
 use asm_text::Listed;
 use ebc_insn::Insn;
 use note_types::{NoMemory, Notes, Spot};
-use point_texts::function_at;
-use run_texts::ShownSpot;
+use printed_texts::{ShownSpot, function_at};
 use std::alloc::Global;
 use std::fmt;
 

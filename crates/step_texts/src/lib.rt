@@ -1,5 +1,5 @@
 //! What is printed of a step of a run: which it is, where the run stood, the instruction, and what changed; and of the state behind the
-//! last one. docs/TRACE.md has the lines in words. Events have the lines of `run_texts`, and instructions those of listings.
+//! last one. docs/TRACE.md has the lines in words. Events have the lines of `printed_texts`, and instructions those of listings.
 //!
 //! Promises:
 //!

@@ -5,7 +5,7 @@ ghost use Rattle.script_draft.specs.Printed.{function_name, method_name};
 ghost use Rattle.step_texts.specs.StepTexts.{image_text, meaning_part, past_text, thing_text};
 
 use note_types::Notes;
-use point_texts::function_at;
+use printed_texts::function_at;
 use std::fmt::{self, Display};
 
 /// What a number is as an address of a run.

@@ -8,7 +8,7 @@ use crate::numbers::Number;
 use crate::step::Change;
 use crate::text::LINE_ROOM;
 use note_types::{NoMemory, Notes};
-use run_texts::Place;
+use printed_texts::Place;
 use std::alloc::Global;
 
 /// What the machine of a run holds between two steps.

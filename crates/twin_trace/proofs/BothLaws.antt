@@ -8,7 +8,7 @@ use Rattle.asm_text.specs.Splits.{lines_of as text_lines}
 use Rattle.host_model.specs.World.{World}
 use Rattle.note_types.specs.declared.ending.Ending.TheVariants.{Running}
 use Rattle.pe_image.specs.declared.image.Image.{Image}
-use Rattle.run_texts.specs.RunTexts.{differ_line}
+use Rattle.printed_texts.specs.RunTexts.{differ_line}
 use Rattle.run_trace.specs.Following.{HasEnded}
 use Rattle.run_trace.specs.Traces.{lines_of, state_after}
 use Rattle.run_trace.specs.declared.telling.Program.{Program}

@@ -4,7 +4,7 @@ use Rattle.std.specs.List.{flat_map, range_with_len}
 use Rattle.host_model.specs.World.{World}
 use Rattle.note_types.specs.declared.notes.Notes.{Notes}
 use Rattle.pe_image.specs.declared.image.Image.{Image}
-use Rattle.run_texts.specs.RunTexts.{differ_line, end_line}
+use Rattle.printed_texts.specs.RunTexts.{differ_line, end_line}
 use Rattle.run_trace.specs.Following.{IsAfter}
 use Rattle.run_trace.specs.Traces.{lines_of, state_after}
 use Rattle.run_trace.specs.declared.telling.Program.{Program}

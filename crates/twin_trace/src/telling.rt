@@ -16,7 +16,7 @@ use crate::runs::BothRuns;
 use ebc_base::NoMemory;
 use note_types::{Notes, Script};
 use pe_image::Image;
-use run_texts::{append_end, differ_line};
+use printed_texts::{append_end, differ_line};
 use run_trace::Program;
 use side_by_side::append_beside;
 use std::alloc::Global;

@@ -1,4 +1,0 @@
-pub mod Join
-pub mod JoinStates
-pub mod Laws
-pub mod Ranks

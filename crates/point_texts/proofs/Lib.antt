@@ -1,3 +1,0 @@
-pub mod KeptNumbers
-pub mod PrintedTypeLaws
-mod Rows

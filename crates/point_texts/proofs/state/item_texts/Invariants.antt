@@ -1,6 +1,0 @@
-use Rattle.std.proofs.Common.{◌≡◌, take}
-use Rattle.point_texts.specs.PrintedStates.{item_texts}
-use Rattle.point_texts.proofs.state.item_texts.Given as goal
-
-abbrev pub invariant-loop-item : goal.invariant-loop-item
-invariant-loop-item l = l.texts.items ≡ item_texts l.notes l.fields (take l.item-index l.items)

@@ -1,3 +1,0 @@
-pub mod NamedTypes
-pub mod PrintedStates
-pub mod PrintedTypes

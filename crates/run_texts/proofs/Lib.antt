@@ -1,3 +1,0 @@
-mod HexLaws
-mod Rows
-mod PairRows

@@ -1,6 +1,0 @@
-use Rattle.std.proofs.Common.{◌≡◌, ◌++◌, take}
-use Rattle.run_texts.specs.RunTexts.{arguments_text}
-use Rattle.run_texts.proofs.event.append_arguments.Given as goal
-
-abbrev pub invariant-loop-seen : goal.invariant-loop-seen
-invariant-loop-seen l = l.out.items ≡ l.fn.out.items ++ arguments_text l.notes (take l.seen-index l.args)

@@ -1,3 +1,0 @@
-pub mod PairTexts
-pub mod RunTexts
-pub mod Refusals

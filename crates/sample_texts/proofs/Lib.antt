@@ -1,5 +1,0 @@
-mod Rows
-pub mod LengthLaws
-pub mod PlanLaws
-pub mod SumLaws
-pub mod TextLaws
