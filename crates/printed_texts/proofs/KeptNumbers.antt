@@ -1,5 +1,5 @@
 -- Lists of what a test keeps of some numbers, one number more.
-use Rattle.std.proofs.Common.{◌≡◌, ℕ, zero, suc, ◌+◌, Bool, true, false, not, List, [], ◌∷◌, ◌++◌, filter, map, cond, refl, ap, ◌∙◌}
+use Rattle.std.proofs.Common.{◌≡◌, ℕ, ◌+◌, Bool, true, false, not, List, [], ◌∷◌, ◌++◌, filter, map, cond, refl, ap, ◌∙◌}
 use Rattle.std.proofs.Common.{arith, add-one}
 use Rattle.std.specs.List.{range_with_len}
 use Rattle.std.proofs.lemmas.List.{map-append}
@@ -11,12 +11,7 @@ use Rattle.note_types.specs.declared.state.State.{State}
 use Rattle.rules_base.specs.Places.{has_field}
 use Rattle.printed_texts.specs.PrintedStates.{is_left_out, register_text, told_up_to}
 use Rattle.printed_texts.specs.PrintedTypes.{field_name, names_below}
-
-range_more : (a n : ℕ) → range_with_len a (suc n) ≡ range_with_len a n ++ (a + n) ∷ []
-range_more a zero = let e : a ≡ a + 0 = omega arith in ap (λ x. x ∷ []) e
-range_more a (suc n) =
-    let e : a + 1 + n ≡ a + suc n = omega arith in
-    ap (λ xs. a ∷ xs) (range_more (a + 1) n ∙ ap (λ x. range_with_len (a + 1) n ++ x ∷ []) e)
+use Rattle.printed_texts.proofs.RangeLaws.{range_more}
 
 one_kept : {X : Type 0} (f : ℕ → X) (j : ℕ) (b : Bool) → map f (cond b (j ∷ []) []) ≡ cond b (f j ∷ []) []
 one_kept f j true = refl

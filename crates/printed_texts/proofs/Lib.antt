@@ -7,5 +7,6 @@ pub mod KeptNumbers
 pub mod LengthLaws
 pub mod PlanLaws
 pub mod PrintedTypeLaws
+pub mod RangeLaws
 pub mod SumLaws
 pub mod TextLaws

@@ -12,7 +12,7 @@ use Rattle.pair_model.specs.declared.event.PairEvent.{PairEvent}
 use Rattle.pair_model.specs.declared.event.PairEvent.TheVariants as pair_event
 use Rattle.script_draft.specs.Printed.{named_value, value_text}
 use Rattle.printed_texts.specs.PairTexts.{pair_event_line, pair_run_text}
-use Rattle.printed_texts.specs.RunTexts.{place_text, twin_text, wild_text}
+use Rattle.printed_texts.specs.RunTexts.{place_text, twin_text}
 use Rattle.printed_texts.proofs.RunRows.{function, notes, one, signature}
 
 abbrev consumer : Notes

@@ -1,6 +1,6 @@
 -- What is seen of a run before a step and after it is what the step is made of.
 use Rattle.std.proofs.Common.{◌≡◌, ℕ, Bool, true, false, List, drop, length, Option, None, Result, Ok, Err}
-use Rattle.std.proofs.Common.{◌++◌, append_assoc, refl, sym, ap, ◌∙◌, if◌then◌else◌}
+use Rattle.std.proofs.Common.{◌++◌, append_assoc, sym, ap, ◌∙◌, if◌then◌else◌}
 use Rattle.std.specs.Prelude.{OnOk}
 use Rattle.std.specs.Option.{option_and_then, option_map}
 use Rattle.ebc_base.specs.Steps.{◌>>=◌, or_else}
@@ -13,8 +13,6 @@ use Rattle.host_model.specs.Placements.{own_placement}
 use Rattle.host_model.specs.RunState.{RunState}
 use Rattle.host_model.specs.World.{World}
 use Rattle.note_types.specs.Concrete.{Concrete, rest_from}
-use Rattle.note_types.specs.declared.ending.Ending.{Ending}
-use Rattle.note_types.specs.declared.ending.Ending.TheVariants.{Running, Finished, Raised, Mismatch, ScriptEnd}
 use Rattle.note_types.specs.declared.event.Event.{Event}
 use Rattle.note_types.specs.declared.exception.Exception.TheVariants as raises
 use Rattle.note_types.specs.declared.notes.Notes.{Notes}
@@ -26,7 +24,8 @@ use Rattle.step_texts.specs.declared.step.Stored.{Stored}
 use Rattle.twin_run.specs.Watching.{has_c, is_hosts_turn}
 use Rattle.run_trace.specs.Pointed.{pointed_lines}
 use Rattle.run_trace.specs.Steps.{before_of, bytes_of, flag_change, insn_of, laid, next_insn, next_store, register_changes, step_of}
-use Rattle.run_trace.specs.Steps.{stored_in, unless_ended}
+use Rattle.run_trace.specs.Steps.{stored_in}
+use Rattle.run_trace.specs.Addresses.{held}
 use Rattle.run_trace.specs.Stores.{stored_by}
 use Rattle.run_trace.specs.Traces.{step_lines}
 use Rattle.run_trace.specs.declared.before.Before.{Before}
@@ -50,26 +49,9 @@ machines-insn world r insn machines found = found ∙ ap (λ b. if b then None e
 
 -- ---- what is stored
 
-pub laid-is : (s : Concrete) (range : StoreRange) (o : Option (List ℕ)) → rest_from s range.address ≡ o
-    → option_map (bytes_of range) o ≡ laid s range
-laid-is s range o found = ap (option_map (bytes_of range)) (sym found)
-
-over-none : (e : Ending) (stored : Option Stored) → (e ≡ Running → ⊥) → None ≡ unless_ended e stored
-over-none Running stored over = absurd (over refl)
-over-none (Finished v) stored over = refl
-over-none (Raised x) stored over = refl
-over-none (Mismatch x) stored over = refl
-over-none ScriptEnd stored over = refl
-
-pub ended-stored : (range : Option StoreRange) (s : RunState) (e : Ending) → e ≡ s.ending → (e ≡ Running → ⊥) → None ≡ stored_in range s
-unfolding stored_in
-ended-stored range s e same over = over-none s.ending _ (λ on. over (same ∙ on))
-
-pub running-stored : (range : Option StoreRange) (s : RunState) (e : Ending) (stored : Option Stored) → e ≡ s.ending → e ≡ Running
-    → stored ≡ option_and_then (laid s.machine) range → stored ≡ stored_in range s
-unfolding stored_in
-running-stored range s e stored same on is =
-    is ∙ sym (ap (λ x. unless_ended x (option_and_then (laid s.machine) range)) (sym same ∙ on))
+pub laid-is : (notes : Notes) (s : Concrete) (range : StoreRange) (objects : List Range) (o : Option (List ℕ)) → objects ≡ s.objects
+    → rest_from s range.address ≡ o → option_map (bytes_of (held notes objects range.address) range.size) o ≡ laid notes s range
+laid-is notes s range objects o lie found = λ i. option_map (bytes_of (held notes (lie i) range.address) range.size) (sym found i)
 
 -- ---- the whole
 
@@ -92,7 +74,7 @@ pub step-is : (w : ℕ) (world : World) (number : ℕ) (r s : RunState) (notes :
     (flag : Option Bool) (stored : Option Stored) (objects : List Range) (registers : List ℕ) (c : Bool)
     → world.notes ≡ notes → before ≡ before_of w world r → objects ≡ s.machine.objects
     → changes ≡ register_changes notes objects before.registers registers → registers ≡ s.machine.registers
-    → flag ≡ flag_change before.has_c c → c ≡ has_c s.machine → stored ≡ stored_in before.store s
+    → flag ≡ flag_change before.has_c c → c ≡ has_c s.machine → stored ≡ stored_in notes before.store s
     → record { number = number; place = before.place; insn = before.insn; registers = changes; flag = flag; stored = stored }
     ≡ step_of w world number r s
 unfolding before_of step_of
@@ -102,7 +84,7 @@ step-is w world number r s notes before changes flag stored objects registers c 
   insn = (same i).insn;
   registers = (changed ∙ (λ j. register_changes (sym its j) (lie j) (same j).registers (holds j))) i;
   flag = (flags ∙ (λ j. flag_change (same j).has_c (carries j))) i;
-  stored = (is ∙ ap (λ (b : Before). stored_in b.store s) same) i;
+  stored = (is ∙ (λ j. stored_in (sym its j) (same j).store s)) i;
 }
 
 -- so its lines are those of the step, and what arguments point to of the native calls among its events

@@ -30,8 +30,8 @@ use Rattle.twin_run.proofs.Stepping.{ended-is-last}
 use Rattle.run_trace.specs.Calls.{all_open, call_at, call_length, call_of, followed, next_back, open_calls, stack_top, stays_below}
 use Rattle.run_trace.specs.Calls.{still_open, top_after, while_running}
 use Rattle.run_trace.specs.declared.calls.InnerCall.{InnerCall}
-use Rattle.run_trace.proofs.RowLaws.{range-more}
-use Rattle.run_trace.proofs.TraceLaws.{flat-more, none-over}
+use Rattle.printed_texts.proofs.RangeLaws.{flat_more, range_more}
+use Rattle.run_trace.proofs.TraceLaws.{none-over}
 
 -- ---- the next instruction
 
@@ -55,7 +55,7 @@ stays-more top i k least =
     let count : k + 1 + 1 - i ≡ suc (k + 1 - i) = omega (arith, least) in
     let last : i + (k + 1 - i) ≡ k + 1 = omega (arith, least) in
     let is : ℕ → Bool = λ j. nat_le (top j) (top i) in
-    ap (λ n. list_all is (range_with_len i n)) count ∙ ap (list_all is) (range-more i (k + 1 - i))
+    ap (λ n. list_all is (range_with_len i n)) count ∙ ap (list_all is) (range_more i (k + 1 - i))
     ∙ list_all-append is (range_with_len i (k + 1 - i)) ((i + (k + 1 - i)) ∷ [])
     ∙ ap (λ j. stays_below top i k && (is j && true)) last ∙ ap (λ b. stays_below top i k && b) (and-true (is (k + 1)))
   where
@@ -105,7 +105,7 @@ module _ {A : Type 0} (top : ℕ → ℕ) (put : ℕ → List A) (at : A → ℕ
   all-more k =
       let next : k + 1 ≡ suc k = omega arith in
       ap (λ n. flat_map (still_open top put (k + 1)) (range_with_len 1 n)) next
-      ∙ flat-more (still_open top put (k + 1)) 1 k
+      ∙ flat_more (still_open top put (k + 1)) 1 k
       ∙ ap (λ t. t ++ still_open top put (k + 1) (1 + k)) (many-more k 1 k (omega arith))
       ∙ ap (λ t. filter (kept (k + 1)) (flat_map (still_open top put k) (range_with_len 1 k)) ++ t) (last-open k)
 

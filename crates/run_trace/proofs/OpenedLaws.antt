@@ -26,7 +26,8 @@ use Rattle.twin_run.specs.Runner.{hosts_of}
 use Rattle.twin_run.specs.Watching.{has_c}
 use Rattle.twin_run.specs.declared.runner.AskedCall.{AskedCall}
 use Rattle.twin_run.proofs.BoundLaws.{hosts_count}
-use Rattle.run_trace.specs.States.{accepted_of, back_lines, frame_lines, frames_lines, held, holdings_of, open_of, opened_lines}
+use Rattle.run_trace.specs.Addresses.{held}
+use Rattle.run_trace.specs.States.{accepted_of, back_lines, frame_lines, frames_lines, holdings_of, open_of, opened_lines}
 use Rattle.run_trace.specs.States.{registers_held, saved_with, under_way}
 use Rattle.run_trace.specs.declared.calls.InnerCall.{InnerCall}
 

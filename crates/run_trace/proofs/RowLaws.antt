@@ -3,7 +3,7 @@ use Rattle.std.specs.Prelude.{not, slice_index, slice_index_or}
 use Rattle.std.specs.List.{filter, flat_map, list_all, range_with_len}
 use Rattle.std.proofs.Common.{◌≡◌, ℕ, zero, suc, ◌&&◌, ◌+◌, ◌-◌, ◌*◌, ◌/◌, ◌<◌, ◌≤◌, Bool, true, false, cond}
 use Rattle.std.proofs.Common.{List, [], ◌∷◌, ◌++◌, length, nat_eq, take}
-use Rattle.std.proofs.Common.{refl, sym, ap, ◌∙◌, inl, inr, add-zero, append_assoc, arith, subst}
+use Rattle.std.proofs.Common.{refl, sym, ap, ◌∙◌, inl, inr, append_assoc, arith, subst}
 use Rattle.std.proofs.lemmas.Bool.{cases_lt}
 use Rattle.std.proofs.lemmas.Grind.{flat_map-append}
 use Rattle.std.proofs.lemmas.List.{append-nil, length-append, take-append-le}
@@ -11,17 +11,10 @@ use Rattle.std.proofs.lemmas.List.Elements.{filter-append}
 use Rattle.std.proofs.lemmas.List.Folds.{list_all-append, list_all_at}
 use Rattle.std.proofs.lemmas.List.FromFn.{get_or-range_with_len, length-range_with_len}
 use Rattle.note_types.specs.declared.notes.Notes.{Notes}
+use Rattle.printed_texts.proofs.RangeLaws.{range_more}
 use Rattle.run_trace.specs.Changes.{object_lines, row_line_of, row_of, row_place, rows_differ}
 use Rattle.step_texts.specs.RowTexts.{more_line, row_line}
 use Rattle.step_texts.specs.declared.step.Change.{Change}
-
--- ---- ranges
-
-pub range-more : (a n : ℕ) → range_with_len a (suc n) ≡ range_with_len a n ++ (a + n) ∷ []
-range-more a zero = ap (λ k. k ∷ []) (sym (add-zero a))
-range-more a (suc n) =
-    let next : a + 1 + n ≡ a + suc n = omega arith in
-    ap (λ t. a ∷ t) (range-more (a + 1) n ∙ ap (λ k. range_with_len (a + 1) n ++ k ∷ []) next)
 
 -- ---- whether a row differs
 
@@ -53,7 +46,7 @@ same_more old new k before same =
     let next : k + 1 ≡ suc k = omega arith in
     let last : 0 + k ≡ k = omega arith in
     ap (λ n. list_all test (range_with_len 0 n)) next
-    ∙ ap (list_all test) (range-more 0 k ∙ ap (λ j. range_with_len 0 k ++ j ∷ []) last)
+    ∙ ap (list_all test) (range_more 0 k ∙ ap (λ j. range_with_len 0 k ++ j ∷ []) last)
     ∙ list_all-append test (range_with_len 0 k) (k ∷ [])
     ∙ (λ i. before i && (here i && true))
 
@@ -73,7 +66,7 @@ chosen-more : (test : ℕ → Bool) (n : ℕ)
 chosen-more test n =
     let next : n + 1 ≡ suc n = omega arith in
     let last : 0 + n ≡ n = omega arith in
-    ap (λ m. filter test (range_with_len 0 m)) next ∙ ap (filter test) (range-more 0 n ∙ ap (λ k. range_with_len 0 n ++ k ∷ []) last)
+    ap (λ m. filter test (range_with_len 0 m)) next ∙ ap (filter test) (range_more 0 n ∙ ap (λ k. range_with_len 0 n ++ k ∷ []) last)
     ∙ filter-append test (range_with_len 0 n) (n ∷ [])
 
 -- the lines of the first eight rows that a test chooses among so many, behind a text, and how many it chooses

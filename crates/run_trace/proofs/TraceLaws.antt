@@ -1,9 +1,8 @@
 -- The lines of the steps of a run, step by step: none before the first, one step more, and none once the run has ended.
 use Rattle.std.specs.Prelude.{◌≢◌}
-use Rattle.std.proofs.Common.{◌≡◌, ◌⊎◌, ℕ, zero, suc, ◌+◌, ◌-◌, ◌<◌, ◌≤◌, List, [], ◌∷◌, ◌++◌}
+use Rattle.std.proofs.Common.{◌≡◌, ◌⊎◌, ℕ, zero, suc, ◌+◌, ◌-◌, ◌<◌, ◌≤◌, List, [], ◌++◌}
 use Rattle.std.proofs.Common.{refl, sym, ap, ◌∙◌, inl, inr, arith, add-zero, append_assoc}
 use Rattle.std.proofs.lemmas.Bool.{cases_lt}
-use Rattle.std.proofs.lemmas.Grind.{flat_map-append}
 use Rattle.std.proofs.lemmas.List.{append-nil}
 use Rattle.std.specs.List.{flat_map, range_with_len}
 use Rattle.host_model.specs.Placements.{own_placement}
@@ -21,19 +20,9 @@ use Rattle.twin_run.specs.Runner.{IsRunner, Runs}
 use Rattle.twin_run.specs.declared.runner.Runner.{Runner}
 use Rattle.twin_run.proofs.OnItsWay.{run-next}
 use Rattle.twin_run.proofs.Stepping.{ended-is-last}
-use Rattle.run_trace.proofs.RowLaws.{range-more}
+use Rattle.printed_texts.proofs.RangeLaws.{flat_more}
 use Rattle.run_trace.specs.Calls.{while_running}
 use Rattle.run_trace.specs.Traces.{lines_of, step_lines, told_lines}
-
--- ---- lists
-
-pub flat-more : {A : Type 0} (f : ℕ → List A) (a n : ℕ)
-    → flat_map f (range_with_len a (suc n)) ≡ flat_map f (range_with_len a n) ++ f (a + n)
-flat-more f a n =
-    ap (flat_map f) (range-more a n) ∙ flat_map-append f (range_with_len a n) ((a + n) ∷ [])
-    ∙ ap (λ t. flat_map f (range_with_len a n) ++ t) (append-nil (f (a + n)))
-
--- ---- the lines of a run
 
 -- nothing is left of what there is while a run goes on
 pub none-over : {A : Type 0} (e : Ending) (xs : List A) → e ≢ Running → while_running e xs ≡ []
@@ -62,7 +51,7 @@ module _ (w : ℕ) (image : Image) (world : World) where
       let count : taken + 1 + 1 - first ≡ suc (taken + 1 - first) = omega (arith, least) in
       let last : first + (taken + 1 - first) ≡ taken + 1 = omega (arith, least) in
       ap (λ n. flat_map (lines_of w image world) (range_with_len first n)) count
-      ∙ flat-more (lines_of w image world) first (taken + 1 - first)
+      ∙ flat_more (lines_of w image world) first (taken + 1 - first)
       ∙ ap (λ k. told_lines w image world first taken ++ lines_of w image world k) last
 
   -- the lines of a step of a run that goes on

@@ -9,6 +9,7 @@ use Rattle.step_texts.specs.declared.meaning.Meaning.{Meaning}
 use Rattle.step_texts.specs.declared.meaning.Meaning.TheVariants.{Past, Place}
 use Rattle.step_texts.specs.declared.meaning.Thing.{Thing}
 use Rattle.step_texts.specs.declared.meaning.Thing.TheVariants as things
+use Rattle.step_texts.specs.declared.step.Change.{Change}
 use Rattle.run_trace.specs.declared.addresses.Located.{Located}
 
 -- ---- where an address lies
@@ -47,3 +48,7 @@ meaning_of notes l =
 -- what a number is as an address, where the objects lie so: nothing if no object has the byte there
 unfoldable pub meaning_at : Notes → List Range → ℕ → Option Meaning
 meaning_at notes objects x = option_and_then (meaning_of notes) (located 0 objects x)
+
+-- a number, and what it is as an address, where the objects lie so
+abbrev pub held : Notes → List Range → ℕ → Change
+held notes objects x = record { number = x; meaning = meaning_at notes objects x }

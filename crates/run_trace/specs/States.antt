@@ -17,14 +17,10 @@ use Rattle.step_texts.specs.declared.state.OpenFunction.{OpenFunction}
 use Rattle.step_texts.specs.declared.step.Change.{Change}
 use Rattle.twin_run.specs.Watching.{has_c}
 use Rattle.twin_run.specs.declared.runner.AskedCall.{AskedCall}
-use Rattle.run_trace.specs.Addresses.{meaning_at}
+use Rattle.run_trace.specs.Addresses.{held}
 use Rattle.run_trace.specs.declared.calls.InnerCall.{InnerCall}
 
 -- ---- the machine
-
--- a number, and what it is as an address, where the objects lie so
-abbrev pub held : Notes → List Range → ℕ → Change
-held notes objects x = record { number = x; meaning = meaning_at notes objects x }
 
 -- what R0 to R7 hold
 abbrev pub registers_held : Notes → List Range → List ℕ → List (Option Change)

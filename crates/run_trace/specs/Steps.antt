@@ -19,7 +19,7 @@ use Rattle.step_texts.specs.declared.step.Change.{Change}
 use Rattle.step_texts.specs.declared.step.Step.{Step}
 use Rattle.step_texts.specs.declared.step.Stored.{Stored}
 use Rattle.twin_run.specs.Watching.{has_c, is_hosts_turn}
-use Rattle.run_trace.specs.Addresses.{meaning_at}
+use Rattle.run_trace.specs.Addresses.{held}
 use Rattle.run_trace.specs.Stores.{stored_by}
 use Rattle.run_trace.specs.declared.before.Before.{Before}
 use Rattle.run_trace.specs.declared.stores.StoreRange.{StoreRange}
@@ -40,7 +40,7 @@ next_insn world r = if is_hosts_turn world r then None else insn_of (fetched r.m
 -- the new number, where it is another, and what it is as an address, where the objects lie so
 abbrev pub change : Notes → List Range → ℕ → ℕ → Option Change
 change notes objects old new =
-    if nat_eq old new then None else Some (record { number = new; meaning = meaning_at notes objects new })
+    if nat_eq old new then None else Some (held notes objects new)
 
 -- the new number of each of R0 to R7 that holds another
 abbrev pub register_changes : Notes → List Range → List ℕ → List ℕ → List (Option Change)
@@ -60,13 +60,13 @@ flag_change false false = None
 unfoldable pub next_store : ℕ → World → RunState → Option StoreRange
 next_store w world r = option_and_then (stored_by w r.machine.registers) (next_insn world r)
 
--- the first of the bytes that lie from the address of a range on, as many as the range has
-abbrev pub bytes_of : StoreRange → List ℕ → Stored
-bytes_of range rest = record { address = range.address; bytes = record { items = take range.size rest } }
+-- the first of the bytes that lie from an address on, so many
+abbrev pub bytes_of : Change → (size : ℕ) → (rest : List ℕ) → Stored
+bytes_of address size rest = record { address = address; bytes = record { items = take size rest } }
 
 -- the bytes of a range as they lie in a memory
-abbrev pub laid : Concrete → StoreRange → Option Stored
-laid s range = option_map (bytes_of range) (rest_from s range.address)
+abbrev pub laid : Notes → Concrete → StoreRange → Option Stored
+laid notes s range = option_map (bytes_of (held notes s.objects range.address) range.size) (rest_from s range.address)
 
 -- a step that ends the run has stored nothing
 abbrev pub unless_ended : Ending → Option Stored → Option Stored
@@ -74,8 +74,8 @@ unless_ended Running stored = stored
 unless_ended _ stored = None
 
 -- what the instruction of a step stored, with the bytes that lie there after it
-unfoldable pub stored_in : Option StoreRange → RunState → Option Stored
-stored_in range s = unless_ended s.ending (option_and_then (laid s.machine) range)
+unfoldable pub stored_in : Notes → Option StoreRange → RunState → Option Stored
+stored_in notes range s = unless_ended s.ending (option_and_then (laid notes s.machine) range)
 
 -- ---- a step
 
@@ -98,5 +98,5 @@ step_of w world number r s = record {
   insn = next_insn world r;
   registers = register_changes world.notes s.machine.objects r.machine.registers s.machine.registers;
   flag = flag_change (has_c r.machine) (has_c s.machine);
-  stored = stored_in (next_store w world r) s;
+  stored = stored_in world.notes (next_store w world r) s;
 }

@@ -15,8 +15,8 @@ ghost use Rattle.run_trace.specs.Walks.{RunsImage};
 ghost use Rattle.run_trace.specs.Steps.{before_of, bytes_of, change, flag_change, insn_of, laid, next_insn, register_changes};
 ghost use Rattle.run_trace.specs.Steps.{step_of, stored_in};
 
+use crate::holding::held;
 use crate::stores::{StoreRange, stored_by};
-use crate::walking::meaning_at;
 use arrayvec::ArrayVec;
 use ebc_decode::{Decoded, decode_first};
 use ebc_insn::Insn;
@@ -101,12 +101,10 @@ fn change<const W: usize>(runner: &Runner<W>, notes: &Notes, old: u64, new: u64)
     ensures { result ≡ change notes.now (ranges runner.now.mem) old new }
 {
     if old == new {
-        return None;
+        None
+    } else {
+        Some(held(runner, notes, new))
     }
-    Some(Change {
-        number: new,
-        meaning: meaning_at(runner, notes, new),
-    })
 }
 
 // The new number of each register that holds another.
@@ -144,44 +142,52 @@ fn flag_change(old: bool, new: bool) -> Option<bool>
     }
 }
 
-// The first bytes of those that lie from the address of a range on, as many as the range has.
-fn bytes_of(range: StoreRange, rest: &[u8]) -> Stored
-    requires { range.size ≤ 16 }
-    ensures { result ≡ bytes_of range rest.now }
+// The first bytes of those that lie from an address on, so many.
+fn bytes_of(address: Change, size: usize, rest: &[u8]) -> Stored
+    requires { size ≤ 16 }
+    ensures { result ≡ bytes_of address size rest.now }
 {
-    let found = rest.get(..range.size).unwrap_or(rest);
+    let found = rest.get(..size).unwrap_or(rest);
     let mut bytes = ArrayVec::new();
     let Ok(()) = bytes.try_extend_from_slice(found) else {
         unreachable!();
     };
-    Stored {
-        address: range.address,
-        bytes,
-    }
+    Stored { address, bytes }
 }
 
 // The bytes of a range, as they lie in the memory of a run.
-fn laid<const W: usize>(runner: &Runner<W>, range: StoreRange) -> Option<Stored>
-    requires { range.size ≤ 16 }
-    ensures { (world : World) (s : RunState) → IsRunner W world runner.now s → result ≡ laid s.machine range }
+fn laid<const W: usize>(runner: &Runner<W>, notes: &Notes, range: StoreRange) -> Option<Stored>
+    requires width { IsWidth W }
+    requires runs { RunsImage W runner.now }
+    requires statics { length notes.now.statics < 2 ^ 32 }
+    requires few { range.size ≤ 16 }
+    ensures { (world : World) (s : RunState) → IsRunner W world runner.now s → result ≡ laid notes.now s.machine range }
 {
+    let address = held(runner, notes, range.address);
     match runner.bytes_from(range.address) {
-        Some(rest) => Some(bytes_of(range, rest)),
+        Some(rest) => Some(bytes_of(address, range.size, rest)),
         None => None,
     }
 }
 
 // The bytes of a range if the run goes on.
 #[tactic(auto, unfolding(crate::specs::Steps::stored_in))]
-fn stored_in<const W: usize>(runner: &Runner<W>, range: Option<StoreRange>) -> Option<Stored>
+fn stored_in<const W: usize>(
+    runner: &Runner<W>,
+    notes: &Notes,
+    range: Option<StoreRange>,
+) -> Option<Stored>
+    requires width { IsWidth W }
+    requires runs { RunsImage W runner.now }
+    requires statics { length notes.now.statics < 2 ^ 32 }
     requires few { IfSome range (λ range. range.size ≤ 16) }
-    ensures { (world : World) (s : RunState) → IsRunner W world runner.now s → result ≡ stored_in range s }
+    ensures { (world : World) (s : RunState) → IsRunner W world runner.now s → result ≡ stored_in notes.now range s }
 {
     let Ending::Running = runner.ending() else {
         return None;
     };
     match range {
-        Some(range) => laid(runner, range),
+        Some(range) => laid(runner, notes, range),
         None => None,
     }
 }
@@ -225,7 +231,7 @@ impl Before {
             insn: self.insn,
             registers: register_changes(runner, notes, &self.registers, &runner.registers()),
             flag: flag_change(self.has_c, runner.has_c()),
-            stored: stored_in(runner, self.store),
+            stored: stored_in(runner, notes, self.store),
         }
     }
 }

@@ -5,7 +5,8 @@ ghost use Rattle.object_memory.specs.Memory.{ranges};
 ghost use Rattle.host_model.specs.RunState.{RunState};
 ghost use Rattle.host_model.specs.World.{World};
 ghost use Rattle.twin_run.specs.Runner.{IsRunner};
-ghost use Rattle.run_trace.specs.States.{held, holdings_of, registers_held};
+ghost use Rattle.run_trace.specs.Addresses.{held};
+ghost use Rattle.run_trace.specs.States.{holdings_of, registers_held};
 ghost use Rattle.run_trace.specs.Walks.{RunsImage};
 
 use crate::walking::meaning_at;

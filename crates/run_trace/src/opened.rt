@@ -9,7 +9,8 @@ ghost use Rattle.host_model.specs.RunState.{RunState};
 ghost use Rattle.host_model.specs.World.{World};
 ghost use Rattle.twin_run.specs.Runner.{IsRunner};
 ghost use Rattle.step_texts.specs.StateTexts.{back_line};
-ghost use Rattle.run_trace.specs.States.{accepted_of, back_lines, held, open_of, opened_lines, saved_with, under_way};
+ghost use Rattle.run_trace.specs.Addresses.{held};
+ghost use Rattle.run_trace.specs.States.{accepted_of, back_lines, open_of, opened_lines, saved_with, under_way};
 ghost use Rattle.run_trace.specs.Walks.{RunsImage};
 
 use crate::calls::InnerCall;

@@ -82,9 +82,12 @@ at_the_gate = refl
 
 a_store : step_text notes
     (record (still 2 (spot.Place 0x1044)) {
-      stored = Some (record { address = 0x106190; bytes = record { items = 0x40 ∷ 0 ∷ 0x10 ∷ 0 ∷ [] } });
+      stored = Some (record {
+        address = record { number = 0x106190; meaning = Some (meaning.Past thing.Stack 0xF0) };
+        bytes = record { items = 0x40 ∷ 0 ∷ 0x10 ∷ 0 ∷ [] };
+      });
     }) []
-    ≡ codes "step 2 00001044 tick+0x0\n  store 0000000000106190 40001000\n"
+    ≡ codes "step 2 00001044 tick+0x0\n  store 0000000000106190 stack+0xf0 40001000\n"
 unfolding place_text hex_text digits function_at lines_below
 a_store = refl
 

@@ -4,7 +4,7 @@ use Rattle.std.specs.Fmt.{decimal}
 use Rattle.std.specs.List.{concat, range_with_len}
 use Rattle.asm_text.specs.Numbers.{hex_text}
 use Rattle.note_types.specs.declared.notes.Notes.{Notes}
-use Rattle.step_texts.specs.StepTexts.{meaning_part}
+use Rattle.step_texts.specs.StepTexts.{number_part}
 use Rattle.step_texts.specs.declared.step.Change.{Change}
 
 -- a byte that is another than before, or two dots
@@ -17,9 +17,7 @@ bytes_part old new n = concat (map (λ k. byte_part (slice_index_or old k 0) (sl
 
 -- bytes from an address on, of which some are others than before
 abbrev pub row_line : Notes → Change → (old new : List ℕ) → List ℕ
-row_line notes at old new =
-    codes "  bytes " ++ (hex_text 16 at.number ++ (meaning_part notes at.meaning
-    ++ (codes " " ++ (bytes_part old new (length new) ++ codes "\n"))))
+row_line notes at old new = codes "  bytes " ++ (number_part notes at ++ (codes " " ++ (bytes_part old new (length new) ++ codes "\n")))
 
 -- how many more rows there are, if any
 abbrev pub more_line : ℕ → List ℕ

@@ -2,12 +2,11 @@
 use Rattle.std.specs.Prelude.{ℕ, List, [], ◌++◌, Bool, true, false, Option, Some, None, codes, option_map, slice_get}
 use Rattle.std.specs.Fmt.{decimal}
 use Rattle.std.specs.Option.{option_and_then, option_map_or}
-use Rattle.asm_text.specs.Numbers.{hex_text}
 use Rattle.note_types.specs.declared.notes.Notes.{Notes}
 use Rattle.note_types.specs.declared.notes.Signature.{Signature}
 use Rattle.printed_texts.specs.RunTexts.{place_text}
 use Rattle.script_draft.specs.Printed.{function_name}
-use Rattle.step_texts.specs.StepTexts.{flag_line, meaning_part, register_lines}
+use Rattle.step_texts.specs.StepTexts.{flag_line, number_part, register_lines}
 use Rattle.step_texts.specs.declared.state.Holdings.{Holdings}
 use Rattle.step_texts.specs.declared.state.OpenCall.{OpenCall}
 use Rattle.step_texts.specs.declared.state.OpenCall.TheVariants as calls
@@ -18,8 +17,7 @@ use Rattle.step_texts.specs.declared.step.Change.{Change}
 
 -- an address behind a word, and what it is
 abbrev pub address_line : Notes → (word : List ℕ) → Change → List ℕ
-address_line notes word x =
-    codes "  " ++ (word ++ (codes " " ++ (hex_text 16 x.number ++ (meaning_part notes x.meaning ++ codes "\n"))))
+address_line notes word x = codes "  " ++ (word ++ (codes " " ++ (number_part notes x ++ codes "\n")))
 
 -- a line of its own in front, the registers, ip and C
 abbrev pub holdings_text : Notes → Holdings → List ℕ
@@ -56,4 +54,4 @@ entered_word false = codes "entered"
 abbrev pub function_line : Notes → OpenFunction → List ℕ
 function_line notes o =
     codes "  " ++ (entered_word o.notified ++ (name_part (function_name notes o.function)
-    ++ (codes " " ++ (hex_text 16 o.back.number ++ (meaning_part notes o.back.meaning ++ codes "\n")))))
+    ++ (codes " " ++ (number_part notes o.back ++ codes "\n"))))

@@ -77,6 +77,10 @@ meaning_part notes None = []
 meaning_part notes (Some (meanings.Place place)) = codes " " ++ image_text notes place
 meaning_part notes (Some (meanings.Past thing bytes)) = codes " " ++ (thing_text notes thing ++ past_text bytes)
 
+-- a number, and what it is as an address
+abbrev pub number_part : Notes → Change → List ℕ
+number_part notes x = hex_text 16 x.number ++ meaning_part notes x.meaning
+
 -- ---- the lines below it
 
 -- an event, on a line of its own
@@ -86,8 +90,7 @@ event_below notes e = codes "  " ++ event_line notes e
 -- the new number of a register, if it changed, and what it is as an address
 abbrev pub register_line : Notes → ℕ → Option Change → List ℕ
 register_line notes r None = []
-register_line notes r (Some x) =
-    codes "  R" ++ (decimal r ++ (codes " " ++ (hex_text 16 x.number ++ (meaning_part notes x.meaning ++ codes "\n"))))
+register_line notes r (Some x) = codes "  R" ++ (decimal r ++ (codes " " ++ (number_part notes x ++ codes "\n")))
 
 -- the lines of the first n registers
 unfoldable pub lines_below : Notes → List (Option Change) → ℕ → List ℕ
@@ -104,9 +107,10 @@ flag_line (Some true) = codes "  C 1\n"
 flag_line (Some false) = codes "  C 0\n"
 
 -- the bytes that an instruction stored, behind the address of the first one
-abbrev pub stored_line : Option Stored → List ℕ
-stored_line None = []
-stored_line (Some s) = codes "  store " ++ (hex_text 16 s.address ++ (codes " " ++ (flat_map (hex_text 2) s.bytes.items ++ codes "\n")))
+abbrev pub stored_line : Notes → Option Stored → List ℕ
+stored_line notes None = []
+stored_line notes (Some s) =
+    codes "  store " ++ (number_part notes s.address ++ (codes " " ++ (flat_map (hex_text 2) s.bytes.items ++ codes "\n")))
 
 -- ---- a step
 
@@ -114,4 +118,4 @@ stored_line (Some s) = codes "  store " ++ (hex_text 16 s.address ++ (codes " " 
 abbrev pub step_text : Notes → Step → List Event → List ℕ
 step_text notes s events =
     step_line notes s
-    ++ (flat_map (event_below notes) events ++ (register_lines notes s.registers ++ (flag_line s.flag ++ stored_line s.stored)))
+    ++ (flat_map (event_below notes) events ++ (register_lines notes s.registers ++ (flag_line s.flag ++ stored_line notes s.stored)))

@@ -4,8 +4,8 @@ ghost use Rattle.std.specs.List.{flat_map};
 ghost use Rattle.asm_text.specs.Numbers.{hex_text};
 ghost use Rattle.step_texts.specs.StepTexts.{event_below, flag_line, register_line, register_lines, stored_line};
 
-use crate::meaning::MeaningPart;
-use crate::numbers::{Byte, Number};
+use crate::meaning::NumberPart;
+use crate::numbers::Byte;
 use crate::step::{Change, Stored};
 use crate::text::LINE_ROOM;
 use note_types::{Event, NoMemory, Notes};
@@ -56,13 +56,9 @@ fn append_register(
     let Some(change) = change else {
         return Ok(());
     };
-    let number = Number(change.number);
-    let meaning = MeaningPart {
-        notes,
-        meaning: change.meaning,
-    };
+    let number = NumberPart(notes, change);
     let mut line = String::with_capacity(alloc, LINE_ROOM)?;
-    write!(line, "  R{register} {number}{meaning}\n")?;
+    write!(line, "  R{register} {number}\n")?;
     out.extend_from_slice(line.as_bytes())?;
     Ok(())
 }
@@ -120,15 +116,16 @@ pub(crate) fn push_bytes(bytes: &[u8], line: &mut String) -> Result<(), NoMemory
 /// Want of memory alone.
 pub(crate) fn append_stored(
     alloc: Global,
+    notes: &Notes,
     stored: &Option<Stored>,
     out: &mut Vec<u8>,
 ) -> Result<(), NoMemory>
-    ensures { OnOk result (out.new.items ≡ out.old.items ++ stored_line stored.now) }
+    ensures { OnOk result (out.new.items ≡ out.old.items ++ stored_line notes.now stored.now) }
 {
     let Some(stored) = stored else {
         return Ok(());
     };
-    let address = Number(stored.address);
+    let address = NumberPart(notes, stored.address);
     let mut line = String::with_capacity(alloc, LINE_ROOM)?;
     write!(line, "  store {address} ")?;
     push_bytes(stored.bytes.as_slice(), &mut line)?;

@@ -2,8 +2,10 @@
 ghost use Rattle.std.specs.Prelude.{◌≡◌, ◌++◌, [], Some, option_map};
 ghost use Rattle.std.specs.Option.{option_map_or};
 ghost use Rattle.script_draft.specs.Printed.{function_name, method_name};
-ghost use Rattle.step_texts.specs.StepTexts.{image_text, meaning_part, past_text, thing_text};
+ghost use Rattle.step_texts.specs.StepTexts.{image_text, meaning_part, number_part, past_text, thing_text};
 
+use crate::numbers::Number;
+use crate::step::Change;
 use note_types::Notes;
 use printed_texts::function_at;
 use std::fmt::{self, Display};
@@ -133,11 +135,11 @@ impl fmt::Display for ImagePlace<'_> {
     }
 }
 
-/// What a number is as an address of a run, behind a space; nothing if it is none.
+// What a number is as an address of a run, behind a space; nothing if it is none.
 #[derive(Clone, Copy)]
-pub(crate) struct MeaningPart<'a> {
-    pub notes: &'a Notes,
-    pub meaning: Option<Meaning>,
+struct MeaningPart<'a> {
+    notes: &'a Notes,
+    meaning: Option<Meaning>,
 }
 
 impl fmt::Display for MeaningPart<'_> {
@@ -157,5 +159,22 @@ impl fmt::Display for MeaningPart<'_> {
                 write!(f, " {thing}{past}")
             }
         }
+    }
+}
+
+/// A number, and what it is as an address of a run.
+#[derive(Clone, Copy)]
+pub(crate) struct NumberPart<'a>(pub &'a Notes, pub Change);
+
+impl fmt::Display for NumberPart<'_> {
+    ghost output = { λ x. Some (number_part x.0.now x.1) };
+
+    fn fmt<W: fmt::Write>(&self, f: &mut fmt::Formatter<W>) -> fmt::Result {
+        let number = Number(self.1.number);
+        let meaning = MeaningPart {
+            notes: self.0,
+            meaning: self.1.meaning,
+        };
+        write!(f, "{number}{meaning}")
     }
 }

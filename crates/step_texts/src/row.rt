@@ -2,8 +2,8 @@
 ghost use Rattle.std.specs.Prelude.{◌≡◌, ◌++◌, OnOk, length, string_bytes};
 ghost use Rattle.step_texts.specs.RowTexts.{byte_part, bytes_part, more_line, row_line};
 
-use crate::meaning::MeaningPart;
-use crate::numbers::{Byte, Number};
+use crate::meaning::NumberPart;
+use crate::numbers::Byte;
 use crate::step::Change;
 use crate::text::LINE_ROOM;
 use note_types::{NoMemory, Notes};
@@ -49,13 +49,9 @@ pub fn append_row(
 ) -> Result<(), NoMemory>
     ensures { OnOk result (out.new.items ≡ out.old.items ++ row_line notes.now at old.now new.now) }
 {
-    let number = Number(at.number);
-    let meaning = MeaningPart {
-        notes,
-        meaning: at.meaning,
-    };
+    let address = NumberPart(notes, at);
     let mut line = String::with_capacity(alloc, LINE_ROOM)?;
-    write!(line, "  bytes {number}{meaning} ")?;
+    write!(line, "  bytes {address} ")?;
     push_bytes(old, new, &mut line)?;
     line.push('\n')?;
     out.extend_from_slice(line.as_bytes())?;

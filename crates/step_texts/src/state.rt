@@ -3,8 +3,7 @@ ghost use Rattle.std.specs.Prelude.{◌≡◌, ◌++◌, OnOk, option_map};
 ghost use Rattle.step_texts.specs.StateTexts.{address_line, back_line, call_line, function_line, holdings_text, signature_name};
 
 use crate::changes::{append_registers, flag_line};
-use crate::meaning::{MeaningPart, Named, function_name};
-use crate::numbers::Number;
+use crate::meaning::{Named, NumberPart, function_name};
 use crate::step::Change;
 use crate::text::LINE_ROOM;
 use note_types::{NoMemory, Notes};
@@ -51,13 +50,9 @@ fn append_address(
 ) -> Result<(), NoMemory>
     ensures { OnOk result (out.new.items ≡ out.old.items ++ address_line notes.now word.now address) }
 {
-    let number = Number(address.number);
-    let meaning = MeaningPart {
-        notes,
-        meaning: address.meaning,
-    };
+    let address = NumberPart(notes, address);
     let mut line = String::with_capacity(alloc, LINE_ROOM)?;
-    write!(line, "  {word} {number}{meaning}\n")?;
+    write!(line, "  {word} {address}\n")?;
     out.extend_from_slice(line.as_bytes())?;
     Ok(())
 }
@@ -158,13 +153,9 @@ pub fn append_open_function(
         "entered"
     };
     let name = Named(" ", function_name(notes, opened.function));
-    let back = Number(opened.back.number);
-    let meaning = MeaningPart {
-        notes,
-        meaning: opened.back.meaning,
-    };
+    let back = NumberPart(notes, opened.back);
     let mut line = String::with_capacity(alloc, LINE_ROOM)?;
-    write!(line, "  {word}{name} {back}{meaning}\n")?;
+    write!(line, "  {word}{name} {back}\n")?;
     out.extend_from_slice(line.as_bytes())?;
     Ok(())
 }

@@ -22,10 +22,10 @@ pub struct Step {
     pub stored: Option<Stored>,
 }
 
-/// The number that a register holds in place of another one.
+/// A number, which a register holds in place of another one, say, and what it is as an address.
 #[derive(Clone, Copy)]
 pub struct Change {
-    /// The new number.
+    /// The number.
     pub number: u64,
     /// What it is as an address of the run, if it is one.
     pub meaning: Option<Meaning>,
@@ -35,7 +35,7 @@ pub struct Change {
 #[derive(Drop)]
 pub struct Stored {
     /// The address of the first byte.
-    pub address: u64,
+    pub address: Change,
     /// The bytes, at most 16, by their addresses.
     pub bytes: ArrayVec<u8, 16>,
 }

@@ -32,5 +32,5 @@ pub fn append_step(
     append_events(alloc, notes, events, out)?;
     append_registers(alloc, notes, &step.registers, out)?;
     out.extend_from_slice(flag_line(step.flag).as_bytes())?;
-    append_stored(alloc, &step.stored, out)
+    append_stored(alloc, notes, &step.stored, out)
 }

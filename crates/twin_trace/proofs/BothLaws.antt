@@ -13,7 +13,8 @@ use Rattle.run_trace.specs.Following.{HasEnded}
 use Rattle.run_trace.specs.Traces.{lines_of, state_after}
 use Rattle.run_trace.specs.declared.telling.Program.{Program}
 use Rattle.run_trace.proofs.ToldLaws.{after-end}
-use Rattle.run_trace.proofs.TraceLaws.{ended-lines, flat-more}
+use Rattle.printed_texts.proofs.RangeLaws.{flat_more}
+use Rattle.run_trace.proofs.TraceLaws.{ended-lines}
 use Rattle.side_by_side.specs.SideBySide.{lines_beside, side_by_side}
 use Rattle.twin_run.specs.Reported.{own_run}
 use Rattle.twin_trace.specs.BothTraces.{AreAfter, HasEnds, last_told, states_beside, step_beside, steps_beside, told_steps}
@@ -50,7 +51,7 @@ module _ (image : Image) (world : World) where
       let count : k + 1 - taken ≡ suc (k - taken) = omega (arith, least) in
       let last : taken + 1 + (k - taken) ≡ k + 1 = omega (arith, least) in
       ap (λ n. flat_map (step_beside image world) (range_with_len (taken + 1) n)) count
-      ∙ (flat-more (step_beside image world) (taken + 1) (k - taken)
+      ∙ (flat_more (step_beside image world) (taken + 1) (k - taken)
       ∙ ap (λ n. steps_beside image world taken k ++ step_beside image world n) last)
 
   -- none once both runs have ended

@@ -2,7 +2,7 @@ use Rattle.std.proofs.Common.{ap, arith}
 use Rattle.std.specs.Prelude.{nat_eq}
 use Rattle.object_memory.specs.Memory.{ranges}
 use Rattle.step_texts.specs.StateTexts.{back_line}
-use Rattle.run_trace.specs.States.{held}
+use Rattle.run_trace.specs.Addresses.{held}
 use Rattle.run_trace.specs.declared.calls.InnerCall.{InnerCall}
 use Rattle.run_trace.proofs.OpenedLaws.{backs-are, backs-more}
 use Rattle.run_trace.proofs.opened.append_backs.Goals as goal

@@ -3,7 +3,7 @@ use Rattle.std.specs.Prelude.{nat_eq}
 use Rattle.std.specs.List.{filter, flat_map}
 use Rattle.object_memory.specs.Memory.{ranges}
 use Rattle.step_texts.specs.StateTexts.{back_line}
-use Rattle.run_trace.specs.States.{held}
+use Rattle.run_trace.specs.Addresses.{held}
 use Rattle.run_trace.specs.declared.calls.InnerCall.{InnerCall}
 use Rattle.run_trace.proofs.opened.append_backs.Given as goal
 
