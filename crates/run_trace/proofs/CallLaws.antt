@@ -27,7 +27,7 @@ use Rattle.twin_run.specs.declared.runner.AskedCall.{AskedCall}
 use Rattle.twin_run.proofs.BoundLaws.{hosts_count}
 use Rattle.twin_run.proofs.OnItsWay.{run-next}
 use Rattle.twin_run.proofs.Stepping.{ended-is-last}
-use Rattle.run_trace.specs.Calls.{all_open, call_at, call_length, call_of, followed, next_back, open_calls, stack_top, stays_below}
+use Rattle.run_trace.specs.Calls.{all_open, call_at, call_length, call_of, next_back, open_calls, stack_top, stays_below}
 use Rattle.run_trace.specs.Calls.{still_open, top_after, while_running}
 use Rattle.run_trace.specs.declared.calls.InnerCall.{InnerCall}
 use Rattle.printed_texts.proofs.RangeLaws.{flat_more, range_more}
@@ -169,6 +169,11 @@ call-is s asked frames registers depth back are many hold on =
 pub ended-call : (s : RunState) (back : Option ℕ) → s.ending ≢ Running → call_of s back ≡ []
 ended-call s None over = refl
 ended-call s (Some back) over = none-over s.ending _ over
+
+-- what is left of CALLs that were open, once a step has taken a run from the state r to the state s, and behind these the CALL that the
+-- step did
+unfoldable pub followed : World → (r s : RunState) → List InnerCall → List InnerCall
+followed world r s calls = filter (λ (c : InnerCall). nat_le (stack_top s) c.stack) calls ++ call_of s (next_back world r)
 
 -- what is left and what is added are the CALLs that are open after a step
 pub follows : (world : World) (r s : RunState) (back : Option ℕ) (old new : List InnerCall) → back ≡ next_back world r

@@ -17,20 +17,20 @@ use Rattle.pe_image.specs.declared.image.Image.{Image}
 use Rattle.step_texts.specs.StateTexts.{holdings_text}
 use Rattle.step_texts.specs.declared.state.Holdings.{Holdings}
 use Rattle.twin_run.specs.Reported.{IsReport, own_run}
-use Rattle.twin_run.specs.Runner.{IsRunner}
+use Rattle.twin_run.specs.Runner.{GoesOnFor, IsRunner, steps_on}
 use Rattle.twin_run.specs.declared.reports.RunReport.{RunReport}
 use Rattle.twin_run.specs.declared.runner.Runner.{Runner}
-use Rattle.twin_run.proofs.OnItsWay.{goes-on, reports, run-next, starts}
+use Rattle.twin_run.proofs.OnItsWay.{goes-on_for, reports, run-next, starts}
 use Rattle.twin_run.proofs.Stepping.{ended-is-last}
-use Rattle.run_trace.specs.Calls.{followed, open_calls}
+use Rattle.run_trace.specs.Calls.{open_calls}
 use Rattle.run_trace.specs.Changes.{changed_lines}
 use Rattle.run_trace.specs.Following.{HasEnded, IsAfter, world_under}
 use Rattle.run_trace.specs.States.{holdings_of, opened_lines}
-use Rattle.run_trace.specs.Traces.{IsTold, lines_of, state_after, state_lines, step_lines, told_lines, trace_lines}
+use Rattle.run_trace.specs.Traces.{IsTold, lines_of, state_after, state_lines, told_lines, trace_lines}
 use Rattle.run_trace.specs.declared.calls.InnerCall.{InnerCall}
 use Rattle.run_trace.specs.declared.telling.Program.{Program}
 use Rattle.run_trace.specs.declared.traced.TracedRun.{TracedRun}
-use Rattle.run_trace.proofs.CallLaws.{open-ended, open-next}
+use Rattle.run_trace.proofs.CallLaws.{followed, open-ended, open-next}
 use Rattle.run_trace.proofs.TraceLaws.{ended-lines, trace-done, trace-next, trace-none, trace-skips}
 
 -- ---- where it is
@@ -87,22 +87,23 @@ module _ (w : ℕ) (image : Image) (world : World) where
   pub told-next : (first limit taken : ℕ) (x y : TracedRun w) (old before after : List ℕ)
       → IsTold w image world first limit taken x old before
       → taken < limit → limit < 2 ^ 64 → x.runner.ending ≡ Running
-      → ((r : RunState) → IsRunner w world x.runner r → IsRunner w world y.runner (run_step w world (own_placement w world) r))
-      → FollowsIn w world x y → y.runner.taken ≡ min (x.runner.taken + 1) (2 ^ 64 - 1)
+      → IsRunner w world y.runner (own_run w image world (taken + 1)) → y.calls.items ≡ open_calls w image world (taken + 1)
+      → y.runner.taken ≡ min (x.runner.taken + 1) (2 ^ 64 - 1)
       → (taken + 1 < first → after ≡ before)
-      → (first ≤ taken + 1 → (r : RunState) → IsRunner w world x.runner r
-      → after ≡ before ++ step_lines w world (taken + 1) r (run_step w world (own_placement w world) r))
+      → (first ≤ taken + 1 → after ≡ before ++ lines_of w image world (taken + 1))
       → IsTold w image world first limit (taken + 1) y old after
-  told-next first limit taken x y old before after told less small running step follows counted skipped lines =
+  unfolding steps_on
+  told-next first limit taken x y old before after told less small running there calls counted skipped lines =
       let on : (own_run w image world taken).ending ≡ Running = sym told.way.there.at.ending ∙ running in
+      let goes : GoesOnFor w world 1 (own_run w image world taken) =
+      λ j l. (let none : j ≡ 0 = omega (arith, l) in ap (λ i. (steps_on w world i (own_run w image world taken)).ending) none ∙ on) in
       record {
-        way = goes-on w image world limit taken x.runner y.runner told.way less small on step (λ _. counted);
-        calls = follows (own_run w image world taken) told.way.there ∙ ap (followed world _ _) told.calls
-            ∙ sym (open-next w image world taken);
+        way = goes-on_for w image world limit taken 1 x.runner y.runner told.way (omega (arith, less)) small counted goes
+            (subst (IsRunner w world y.runner) (run-next w image world taken) there);
+        calls = calls;
         text = elim (cases_lt (taken + 1) first) as (λ _. after ≡ old ++ told_lines w image world first (taken + 1)) [
           | inl early ↦ trace-skips w image world first taken old before after early told.text (skipped early)
-          | inr late ↦ trace-next w image world first taken old before after late on told.text
-              (lines late (own_run w image world taken) told.way.there)
+          | inr late ↦ trace-next w image world first taken old before after late told.text (lines late)
         ];
       }
 
@@ -137,14 +138,11 @@ module _ (w : ℕ) (image : Image) (world : World) where
   last-after taken last most (inr same) = ap (state_after w image world) same
 
   pub trace-all : (first last taken : ℕ) (x : TracedRun w) (old text all : List ℕ) → 1 ≤ first
-      → IsTold w image world first last taken x old text → Stops last taken x
-      → ((s : RunState) → IsRunner w world x.runner s → all ≡ text ++ state_lines world x.calls.items (own_run w image world 0) s)
+      → IsTold w image world first last taken x old text → Stops last taken x → all ≡ text ++ state_after w image world taken
       → all ≡ old ++ trace_lines w image world first last
-  trace-all first last taken x old text all some told over states =
+  trace-all first last taken x old text all some told over state =
       let stops = ends first last taken x old text told over in
-      states (own_run w image world taken) told.way.there
-      ∙ ap (λ calls. text ++ state_lines world calls (own_run w image world 0) (own_run w image world taken)) told.calls
-      ∙ ap (λ t. text ++ t) (last-after taken last told.way.most stops)
+      state ∙ ap (λ t. text ++ t) (last-after taken last told.way.most stops)
       ∙ ap (λ t. t ++ state_after w image world last)
       (trace-done w image world first taken last old text some told.way.most stops told.text)
       ∙ append_assoc old (told_lines w image world first last) (state_after w image world last)

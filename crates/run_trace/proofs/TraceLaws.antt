@@ -68,14 +68,11 @@ module _ (w : ℕ) (image : Image) (world : World) where
       ∙ ap (λ s. step_lines w world (taken + 1) (own_run w image world taken) s) (run-next w image world taken)
 
   -- a step more is told
-  pub trace-next : (first taken : ℕ) (old before after : List ℕ) → first ≤ taken + 1 → (own_run w image world taken).ending ≡ Running
-      → before ≡ old ++ told_lines w image world first taken
-      → after ≡ before ++ step_lines w world (taken + 1) (own_run w image world taken)
-      (run_step w world (own_placement w world) (own_run w image world taken))
+  pub trace-next : (first taken : ℕ) (old before after : List ℕ) → first ≤ taken + 1
+      → before ≡ old ++ told_lines w image world first taken → after ≡ before ++ lines_of w image world (taken + 1)
       → after ≡ old ++ told_lines w image world first (taken + 1)
-  trace-next first taken old before after least on told step =
-      step ∙ ap (λ t. before ++ t) (sym (step-is taken on))
-      ∙ ap (λ t. t ++ lines_of w image world (taken + 1)) told
+  trace-next first taken old before after least told step =
+      step ∙ ap (λ t. t ++ lines_of w image world (taken + 1)) told
       ∙ append_assoc old (told_lines w image world first taken) (lines_of w image world (taken + 1))
       ∙ ap (λ t. old ++ t) (sym (more first taken least))
 

@@ -1,7 +1,7 @@
 -- For proofs: the CALLs of an image that haven't returned: docs/TRACE.md, "The state at the end".
-use Rattle.std.specs.Prelude.{ℕ, ◌+◌, ◌-◌, ◌%◌, ◌^◌, Bool, false, not, List, [], ◌∷◌, ◌++◌, length, nat_le, Option, Some, None}
+use Rattle.std.specs.Prelude.{ℕ, ◌+◌, ◌-◌, ◌%◌, ◌^◌, Bool, false, not, List, [], ◌∷◌, length, nat_le, Option, Some, None}
 use Rattle.std.specs.Prelude.{Result, Ok, Err, if◌then◌else◌, slice_index}
-use Rattle.std.specs.List.{filter, flat_map, list_all, range_with_len}
+use Rattle.std.specs.List.{flat_map, list_all, range_with_len}
 use Rattle.std.specs.Option.{option_map}
 use Rattle.ebc_insn.specs.declared.Insn.{Insn}
 use Rattle.ebc_insn.specs.declared.Insn.TheVariants as insns
@@ -73,8 +73,3 @@ module _ (w : ℕ) (image : Image) (world : World) where
   -- those that haven't returned after so many steps: RET takes what they put on the stack, so that R0 lies above it
   abbrev pub open_calls : ℕ → List InnerCall
   open_calls k = all_open top_after call_at k
-
--- what is left of CALLs that were open, once a step has taken a run from the state r to the state s, and behind these the CALL that the
--- step did
-unfoldable pub followed : World → (r s : RunState) → List InnerCall → List InnerCall
-followed world r s calls = filter (λ c. nat_le (stack_top s) c.stack) calls ++ call_of s (next_back world r)

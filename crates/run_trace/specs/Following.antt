@@ -9,7 +9,7 @@ use Rattle.pe_image.specs.Images.{IsImage}
 use Rattle.twin_run.specs.Reported.{own_run}
 use Rattle.twin_run.specs.Runner.{IsRunner}
 use Rattle.twin_run.specs.declared.runner.Runner.{Runner}
-use Rattle.run_trace.specs.Calls.{followed, open_calls}
+use Rattle.run_trace.specs.Calls.{open_calls}
 use Rattle.run_trace.specs.Traces.{step_lines}
 use Rattle.run_trace.specs.declared.telling.Program.{Program}
 use Rattle.run_trace.specs.declared.traced.TracedRun.{TracedRun}
@@ -21,12 +21,6 @@ abbrev pub Steps : (w : ℕ) → Program → (old new : Runner w) → Type 0
 Steps w p old new =
     (world : World) (r : RunState) → world.notes ≡ p.notes.now → world.script ≡ p.script.now → IsRunner w world old r
     → IsRunner w world new (run_step w world (own_placement w world) r)
-
--- The CALLs that are open are those of before, as far as the next step leaves them, and the one that it does.
-abbrev pub Follows : (w : ℕ) → Program → (old new : TracedRun w) → Type 0
-Follows w p old new =
-    (world : World) (r : RunState) → world.notes ≡ p.notes.now → world.script ≡ p.script.now → IsRunner w world old.runner r
-    → new.calls.items ≡ followed world r (run_step w world (own_placement w world) r) old.calls.items
 
 -- A text has the lines of the next step, as that of this number, behind an old text.
 abbrev pub TellsStep : (w : ℕ) → Program → ℕ → Runner w → (old new : List ℕ) → Type 0

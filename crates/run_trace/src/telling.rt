@@ -1,17 +1,16 @@
 //! The steps of a run, told one by one.
-ghost use Rattle.std.specs.Prelude.{◌≡◌, ◌↔◌, ◌+◌, ◌-◌, ◌^◌, ◌<◌, ◌≤◌, ◌++◌, IfOk, IsTrue, OnOk, drop, min};
+ghost use Rattle.std.specs.Prelude.{◌≡◌, ◌+◌, ◌-◌, ◌^◌, ◌<◌, ◌≤◌, ◌++◌, IfOk, OnOk, drop, min};
 ghost use Rattle.ebc_width.specs.Width.{IsWidth};
-ghost use Rattle.host_model.specs.Placements.{own_placement};
 ghost use Rattle.host_model.specs.RunState.{RunState};
-ghost use Rattle.host_model.specs.Runs.{run_step, world_of};
+ghost use Rattle.host_model.specs.Runs.{world_of};
 ghost use Rattle.host_model.specs.Scripts.{IsScript};
 ghost use Rattle.host_model.specs.World.{World};
 ghost use Rattle.note_types.specs.Records.{IsNotes};
 ghost use Rattle.note_types.specs.declared.ending.Ending.TheVariants.{Running};
 ghost use Rattle.pe_image.specs.Images.{IsImage};
 ghost use Rattle.pe_image.specs.Mapped.{AreBytes};
-ghost use Rattle.run_trace.specs.Following.{Follows, Steps, TellsStep, world_under};
-ghost use Rattle.run_trace.specs.Traces.{state_lines, step_lines, trace_lines};
+ghost use Rattle.run_trace.specs.Following.{IsAfter, Steps, TellsStep, world_under};
+ghost use Rattle.run_trace.specs.Traces.{lines_of, state_lines, trace_lines};
 ghost use Rattle.run_trace.specs.Walks.{RunsImage};
 ghost use Rattle.twin_run.specs.Reported.{IsReport, own_run};
 ghost use Rattle.twin_run.specs.Runner.{IsRunner, Runs};
@@ -23,7 +22,7 @@ use crate::holding::holdings;
 use crate::opened::append_opened;
 use crate::pointing::append_pointed_to;
 use crate::traced::TracedRun;
-use note_types::{Ending, Event, NoMemory, Notes, Script};
+use note_types::{Event, NoMemory, Notes, Script};
 use pe_image::Image;
 use std::alloc::Global;
 use step_texts::{append_holdings, append_step};
@@ -72,29 +71,29 @@ pub(crate) fn tell_step<const W: usize>(
     append_pointed_to(alloc, program, runner, events, out)
 }
 
-// Takes the next step of a run that goes on, which is that of this number, and appends its lines from a first number on.
+// Takes the step behind the first so many, and appends its lines if it is the first that is told or one behind it.
 fn next_step<const W: usize>(
     alloc: Global,
     program: Program,
     run: &mut TracedRun<W>,
-    number: u64,
+    taken: u64,
     first: u64,
     out: &mut Vec<u8>,
 ) -> Result<(), NoMemory>
     requires width { IsWidth W }
-    requires runs { Runs W program.notes.now program.script.now run.old.runner }
-    requires running { run.old.runner.ending ≡ Running }
-    requires image { 0 < run.old.runner.image_size }
-    ensures step { Steps W program.entry run.old.runner run.new.runner }
-    ensures counted { run.new.runner.taken ≡ min (run.old.runner.taken + 1) (2 ^ 64 - 1) }
-    ensures calls { OnOk result (Follows W program.entry run.old run.new) }
-    ensures before { number < first → out.new ≡ out.old }
-    ensures text { first ≤ number → OnOk result (TellsStep W program.entry number run.old.runner out.old.items out.new.items) }
+    requires image { IsImage program.image.now }
+    requires few { taken < 2 ^ 64 - 1 }
+    requires before { IsAfter W program taken run.old }
+    ensures after { OnOk result (IsAfter W program.entry (taken + 1) run.new) }
+    ensures counted { run.old.runner.ending ≡ Running → run.new.runner.taken ≡ min (run.old.runner.taken + 1) (2 ^ 64 - 1) }
+    ensures passed { taken + 1 < first → out.new ≡ out.old }
+    ensures text { first ≤ taken + 1 → OnOk result
+        (out.new.items ≡ out.old.items ++ lines_of W program.entry.image.now (world_under program.entry) (taken + 1)) }
 {
-    if number < first {
-        return run.advance(program);
+    if taken + 1 < first {
+        return run.step(program);
     }
-    run.tell(alloc, program, number, out)
+    run.tell_step(alloc, program, taken, out)
 }
 
 /// Appends the lines of the state of a run that has begun, where these CALLs are open: what the machine holds, what is open and what has
@@ -130,13 +129,6 @@ pub(crate) fn append_state<const W: usize>(
     append_changed(alloc, notes, &before, runner, out)
 }
 
-/// Whether the run of a runner goes on.
-pub(crate) fn goes_on<const W: usize>(runner: &Runner<W>) -> bool
-    ensures { (world : World) (r : RunState) → IsRunner W world runner.now r → IsTrue result ↔ (r.ending ≡ Running) }
-{
-    matches!(runner.ending(), Ending::Running)
-}
-
 /// Runs an image at `W` bytes an address, 4 or 8, under notes and with a script, until the run ends or its step `last` is taken.
 /// Appends the lines of its steps from the step `first` on, which counts from 1, and reports what the run then shows.
 ///
@@ -170,9 +162,9 @@ pub fn trace<const W: usize>(
     let mut traced = TracedRun::<W>::start(alloc, program)?;
     let mut taken = 0;
     while taken < last && traced.goes_on() {
-        taken += 1;
         next_step(alloc, program, &mut traced, taken, first, out)?;
+        taken += 1;
     }
-    append_state(alloc, program, &traced.runner, traced.calls.as_slice(), out)?;
+    traced.append_state(alloc, program, out)?;
     Ok(traced.runner.report())
 }

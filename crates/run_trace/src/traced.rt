@@ -8,13 +8,13 @@ ghost use Rattle.note_types.specs.Records.{IsNotes};
 ghost use Rattle.note_types.specs.declared.ending.Ending.TheVariants.{Running};
 ghost use Rattle.pe_image.specs.Images.{IsImage};
 ghost use Rattle.pe_image.specs.Mapped.{AreBytes};
-ghost use Rattle.twin_run.specs.Runner.{IsRunner, Runs};
-ghost use Rattle.run_trace.specs.Following.{Follows, IsAfter, Steps, TellsStep, world_under};
+ghost use Rattle.twin_run.specs.Runner.{IsRunner};
+ghost use Rattle.run_trace.specs.Following.{IsAfter, world_under};
 ghost use Rattle.run_trace.specs.Traces.{lines_of, state_after};
 
 use crate::calls::{InnerCall, follow, next_back};
-use crate::telling::{Program, append_state, goes_on, tell_step};
-use note_types::NoMemory;
+use crate::telling::{Program, append_state, tell_step};
+use note_types::{Ending, NoMemory};
 use std::alloc::Global;
 use twin_run::{Runner, start};
 
@@ -49,44 +49,7 @@ impl<const W: usize> TracedRun<W> {
     pub fn goes_on(&self) -> bool
         ensures { (world : World) (r : RunState) → IsRunner W world self.now.runner r → IsTrue result ↔ (r.ending ≡ Running) }
     {
-        goes_on(&self.runner)
-    }
-
-    // Takes the next step of a run that goes on.
-    pub(crate) fn advance(&mut self, program: Program) -> Result<(), NoMemory>
-        requires width { IsWidth W }
-        requires runs { Runs W program.notes.now program.script.now self.old.runner }
-        requires running { self.old.runner.ending ≡ Running }
-        ensures step { Steps W program.entry self.old.runner self.new.runner }
-        ensures counted { self.new.runner.taken ≡ min (self.old.runner.taken + 1) (2 ^ 64 - 1) }
-        ensures calls { OnOk result (Follows W program.entry self.old self.new) }
-    {
-        let back = next_back(&self.runner, program.notes, program.script);
-        self.runner
-            .step(program.image, program.notes, program.script);
-        follow(&mut self.calls, &self.runner, back)
-    }
-
-    // Takes the next step of a run that goes on, and appends its lines: it is the step of that number.
-    pub(crate) fn tell(
-        &mut self,
-        alloc: Global,
-        program: Program,
-        number: u64,
-        out: &mut Vec<u8>,
-    ) -> Result<(), NoMemory>
-        requires width { IsWidth W }
-        requires runs { Runs W program.notes.now program.script.now self.old.runner }
-        requires running { self.old.runner.ending ≡ Running }
-        requires image { 0 < self.old.runner.image_size }
-        ensures step { Steps W program.entry self.old.runner self.new.runner }
-        ensures counted { self.new.runner.taken ≡ min (self.old.runner.taken + 1) (2 ^ 64 - 1) }
-        ensures calls { OnOk result (Follows W program.entry self.old self.new) }
-        ensures text { OnOk result (TellsStep W program.entry number self.old.runner out.old.items out.new.items) }
-    {
-        let back = next_back(&self.runner, program.notes, program.script);
-        tell_step(alloc, program, &mut self.runner, number, out)?;
-        follow(&mut self.calls, &self.runner, back)
+        matches!(self.runner.ending(), Ending::Running)
     }
 
     /// Takes the next step. A run that ended stays as it is.
@@ -97,10 +60,14 @@ impl<const W: usize> TracedRun<W> {
     pub fn step(&mut self, program: Program) -> Result<(), NoMemory>
         requires width { IsWidth W }
         requires after { (taken : ℕ) × IsAfter W program taken self.old }
-        ensures { OnOk result ((taken : ℕ) → IsAfter W program.entry taken self.old → IsAfter W program.entry (taken + 1) self.new) }
+        ensures after { OnOk result ((taken : ℕ) → IsAfter W program.entry taken self.old → IsAfter W program.entry (taken + 1) self.new) }
+        ensures counted { self.old.runner.ending ≡ Running → self.new.runner.taken ≡ min (self.old.runner.taken + 1) (2 ^ 64 - 1) }
     {
         if self.goes_on() {
-            return self.advance(program);
+            let back = next_back(&self.runner, program.notes, program.script);
+            self.runner
+                .step(program.image, program.notes, program.script);
+            return follow(&mut self.calls, &self.runner, back);
         }
         Ok(())
     }
@@ -122,11 +89,14 @@ impl<const W: usize> TracedRun<W> {
         requires few { taken < 2 ^ 64 - 1 }
         requires before { IsAfter W program taken self.old }
         ensures after { OnOk result (IsAfter W program.entry (taken + 1) self.new) }
+        ensures counted { self.old.runner.ending ≡ Running → self.new.runner.taken ≡ min (self.old.runner.taken + 1) (2 ^ 64 - 1) }
         ensures text { OnOk result
             (out.new.items ≡ out.old.items ++ lines_of W program.entry.image.now (world_under program.entry) (taken + 1)) }
     {
         if self.goes_on() {
-            return self.tell(alloc, program, taken + 1, out);
+            let back = next_back(&self.runner, program.notes, program.script);
+            tell_step(alloc, program, &mut self.runner, taken + 1, out)?;
+            return follow(&mut self.calls, &self.runner, back);
         }
         Ok(())
     }

@@ -1,13 +1,9 @@
-use Rattle.std.proofs.Common.{◌≡◌, ◌⊎◌, ◌++◌, ap, arith, inl, inr, refl, sym, ◌∙◌}
+use Rattle.std.proofs.Common.{◌≡◌, ◌⊎◌, ap, arith, inl, inr, sym, ◌∙◌}
 use Rattle.std.proofs.lemmas.Bool.{false≢true}
 use Rattle.host_model.specs.Runs.{world_of}
 use Rattle.host_model.specs.World.{World}
 use Rattle.note_types.specs.declared.ending.Ending.TheVariants.{Running}
-use Rattle.twin_run.specs.Reported.{own_run}
-use Rattle.run_trace.specs.Traces.{state_lines}
-use Rattle.run_trace.proofs.RunnerLaws.{image-has-bytes, runs-image}
 use Rattle.run_trace.proofs.ToldLaws.{told-next, told-none, told-report, trace-all}
-use Rattle.run_trace.proofs.TraceLaws.{runs-of}
 use Rattle.run_trace.proofs.telling.trace.Goals as goal
 use Rattle.run_trace.proofs.telling.trace.Goals.{then-loop-taken-test+else-goes_on, else-loop-taken-test}
 
@@ -19,33 +15,21 @@ loop-taken-init g c =
 
 pub next_step-requires : goal.next_step-requires
 next_step-requires g c =
-    let world : World = world_of c.args.image.now c.args.notes.now c.args.script.now in
-    let there = c.loop-taken.invariant.way.there in (
-      omega arith,
-      (
-        c.requires.width,
-        (
-          runs-of g.row.W c.args.image.now c.args.notes.now c.args.script.now c.loop-taken.traced.runner _ there,
-          (
-            there.at.ending ∙ (c.goes_on.ensures world _ there).0 c.if-goes_on.true,
-            image-has-bytes g.row.W c.args.image.now c.args.notes.now c.args.script.now c.loop-taken.traced.runner _ c.requires.image there,
-          ),
-        ),
-      ),
-    )
+    let told = c.loop-taken.invariant in
+    let less = c.loop-taken-test.true in
+    (omega arith, (c.requires.width, (c.requires.image, (omega (arith, less), record { there = told.way.there; calls = told.calls }))))
 
 pub loop-taken-preserved : goal.loop-taken-preserved
 loop-taken-preserved g c =
     let world : World = world_of c.args.image.now c.args.notes.now c.args.script.now in
     let told = c.loop-taken.invariant in
     let there = told.way.there in
+    let running = there.at.ending ∙ (c.goes_on.ensures world _ there).0 c.if-goes_on.true in
+    let next = c.in_ok-next_step.ensures.after in
     told-next g.row.W c.args.image.now world c.args.first c.args.last c.loop-taken.taken c.loop-taken.traced c.next_step.new.run
-    c.args.out.now.items c.loop-taken.out.items c.next_step.new.out.items told c.loop-taken-test.true (omega arith)
-    (there.at.ending ∙ (c.goes_on.ensures world _ there).0 c.if-goes_on.true)
-    (λ r is. c.in_ok-next_step.ensures.step world r (λ _. c.args.notes.now) (λ _. c.args.script.now) is)
-    (λ r is. c.in_ok-next_step.ensures.calls world r (λ _. c.args.notes.now) (λ _. c.args.script.now) is)
-    c.in_ok-next_step.ensures.counted (λ early. ap (λ v. v.items) (c.in_ok-next_step.ensures.before early))
-    (λ late r is. c.in_ok-next_step.ensures.text late world r c.requires.image refl (λ _. c.args.notes.now) (λ _. c.args.script.now) is)
+    c.args.out.now.items c.loop-taken.out.items c.next_step.new.out.items told c.loop-taken-test.true (omega arith) running
+    next.there next.calls (c.in_ok-next_step.ensures.counted running) (λ early. ap (λ v. v.items) (c.in_ok-next_step.ensures.passed early))
+    c.in_ok-next_step.ensures.text
 
 pub returns-clause-report : goal.returns-clause-report
 returns-clause-report g c =
@@ -63,10 +47,10 @@ returns-clause-report g c =
 
 pub append_state-requires : goal.append_state-requires
 append_state-requires g c =
-    let runs = runs-image g.row.W c.args.image.now c.args.notes.now c.args.script.now c.loop-taken.traced.runner _ c.requires.image
-    c.loop-taken.invariant.way.there in (
+    let told = c.loop-taken.invariant in
+    let after = record { there = told.way.there; calls = told.calls } in (
       omega arith,
-      (c.requires.width, (c.requires.image, (c.requires.bytes, (c.requires.notes, (c.requires.script, runs))))),
+      (c.requires.width, (c.requires.image, (c.requires.bytes, (c.requires.notes, (c.requires.script, (c.loop-taken.taken, after)))))),
     )
 
 pub returns-clause-text : goal.returns-clause-text
@@ -80,6 +64,5 @@ returns-clause-text g c =
       | else-loop-taken-test w ↦ inr (omega (arith, w.loop-taken-test.false, told.way.most))
     ] in
     trace-all g.row.W c.args.image.now world c.args.first c.args.last c.loop-taken.taken c.loop-taken.traced c.args.out.now.items
-    c.loop-taken.out.items _ c.requires.first told over (λ s is. c.in_ok-append_state.ensures world s refl is
-    ∙ ap (λ calls. c.loop-taken.out.items ++ state_lines world calls (own_run g.row.W c.args.image.now world 0) s)
-    c.as_slice.ensures.value)
+    c.loop-taken.out.items _ c.requires.first told over
+    (c.in_ok-append_state.ensures c.loop-taken.taken (record { there = told.way.there; calls = told.calls }))

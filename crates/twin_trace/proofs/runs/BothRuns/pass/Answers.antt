@@ -11,8 +11,8 @@ loop-number-preserved c =
     let under = c.loop-number-test.true in
     record {
       at = record {
-        at4 = c.in_ok-step.ensures c.loop-number.number at.at4;
-        at8 = c.in_ok-step-2.ensures c.loop-number.number at.at8;
+        at4 = c.in_ok-step.ensures.after c.loop-number.number at.at4;
+        at8 = c.in_ok-step-2.ensures.after c.loop-number.number at.at8;
       };
       least = omega (arith, c.loop-number.invariant.least);
       most = omega (arith, under);

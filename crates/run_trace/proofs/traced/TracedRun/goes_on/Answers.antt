@@ -1,6 +1,6 @@
 use Rattle.std.proofs.Common.{refl, sym, ◌∙◌}
 use Rattle.std.proofs.lemmas.Bool.{false≢true}
-use Rattle.run_trace.proofs.telling.goes_on.Goals as goal
+use Rattle.run_trace.proofs.traced.TracedRun.goes_on.Goals as goal
 
 pub returns-in-Running : goal.returns-in-Running
 returns-in-Running g c = λ world r is. (λ goes. sym (c.in-Running.ensures world r is), λ on. refl)
