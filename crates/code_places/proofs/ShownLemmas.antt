@@ -17,7 +17,7 @@ use Rattle.cli_base.specs.Inputs.{bad_image_reply, image_limit, image_meaning, o
 use Rattle.cli_base.specs.Outcomes.{IsAnswer}
 use Rattle.cli_base.specs.Outputs.{printed, text_of}
 use Rattle.cli_base.specs.Readings.{FileReading, done, file, go_on, large_reply, measured}
-use Rattle.code_places.specs.Answers.{Decides, ShowsImage, answer_of, answer_to, places_reply, reply_of, run_of}
+use Rattle.code_places.specs.Answers.{Decides, ShowsImage, answer_of, answer_to, answer_to_words, places_reply, reply_of_reading}
 use Rattle.code_places.specs.Places.{places_text}
 
 -- the lines of an image's places are those of its listing
@@ -37,18 +37,18 @@ found name bytes x there fits =
 
 -- the answer to an image is its places
 shown : (words : List (List ℕ)) (files : Files) (image : Image) → ShowsImage words files image →
-    reply_of (run_of words files).value ≡ places_reply image
-unfolding run_of answer_of file
+    reply_of_reading (answer_to_words words files).value ≡ places_reply image
+unfolding answer_to_words answer_of file
 shown words files image s =
     let last : Image → FileReading Reply = λ i. done (places_reply i) in
     let next : List ℕ → FileReading Reply = λ bytes. go_on [] (image_meaning 0 s.name bytes) last in
-    ap (λ o. reply_of (answer_to o files).value) s.named
-    ∙ (ap (λ v. reply_of (go_on (s.name ∷ []) v next).value) (found s.name s.bytes (get files s.name) s.there s.fits)
-    ∙ ap (λ r. reply_of (go_on [] (or_reply (bad_image_reply 0 s.name) r) last).value) s.image_is)
+    ap (λ o. reply_of_reading (answer_to o files).value) s.named
+    ∙ (ap (λ v. reply_of_reading (go_on (s.name ∷ []) v next).value) (found s.name s.bytes (get files s.name) s.there s.fits)
+    ∙ ap (λ r. reply_of_reading (go_on [] (or_reply (bad_image_reply 0 s.name) r) last).value) s.image_is)
 
 pub shows :
     (files : Option Files) (words asked now : List (List ℕ)) (reply : Reply) (outcome : Outcome) (before after : Option (List ℕ)) →
-    IfSome files (λ fs. Decides asked now (Ok reply) (run_of words fs)) → (IsAnswer outcome → outcome ≡ reply.outcome) →
+    IfSome files (λ fs. Decides asked now (Ok reply) (answer_to_words words fs)) → (IsAnswer outcome → outcome ≡ reply.outcome) →
     (IsAnswer outcome → after ≡ printed (text_of reply.output) before) →
     IfSome files (λ fs. (image : Image) → ShowsImage words fs image → IsAnswer outcome →
     (outcome ≡ Done) × (after ≡ printed (places_text image) before))

@@ -38,28 +38,28 @@ answer_to (Some name) files = answer_of name files
 answer_to None files = told (Err usage_reply)
 
 -- what the words ask for
-unfoldable pub run_of : List (List ℕ) → Files → FileReading Reply
-run_of words files = answer_to (file_named words) files
+unfoldable pub answer_to_words : List (List ℕ) → Files → FileReading Reply
+answer_to_words words files = answer_to (file_named words) files
 
 -- the reply of a reading, whether it went on or stopped
-abbrev pub reply_of : Result Reply Reply → Reply
-reply_of (Ok reply) = reply
-reply_of (Err reply) = reply
+abbrev pub reply_of_reading : Result Reply Reply → Reply
+reply_of_reading (Ok reply) = reply
+reply_of_reading (Err reply) = reply
 
 -- the text of the answer to the words, over these files
 abbrev pub answer_text : List (List ℕ) → Files → List ℕ
-answer_text words files = text_of (reply_of (run_of words files).value).output
+answer_text words files = text_of (reply_of_reading (answer_to_words words files).value).output
 
 -- a reply that was decided is that of the run, and all its names were asked for; where a read failed or memory ran out, a first part
 -- of them
 abbrev pub Decides : List (List ℕ) → List (List ℕ) → Result Reply Outcome → FileReading Reply → Type 0
-Decides before now (Ok reply) run = (reply ≡ reply_of run.value) × (now ≡ before ++ run.asked)
+Decides before now (Ok reply) run = (reply ≡ reply_of_reading run.value) × (now ≡ before ++ run.asked)
 Decides before now (Err outcome) run = AsksPart before run.asked now
 
 -- the outcome is that of the run, and its text was printed
 pub record Answers (run : FileReading Reply) (outcome : Outcome) (before now : Option (List ℕ)) : Type 0 where
-  pub same : outcome ≡ (reply_of run.value).outcome
-  pub text : now ≡ printed (text_of (reply_of run.value).output) before
+  pub same : outcome ≡ (reply_of_reading run.value).outcome
+  pub text : now ≡ printed (text_of (reply_of_reading run.value).output) before
 
 -- an outcome of words that name a file, or don't
 abbrev pub IsOutcomeOf : Option (List ℕ) → Outcome → Type 0

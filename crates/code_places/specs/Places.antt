@@ -38,19 +38,19 @@ line_distance (listed.Instruction i place) = distance_in i
 line_distance line = None
 
 -- a place, where an image of this size has it
-abbrev pub inside : ℕ → ℤ → Option ℕ
-inside size (pos n) = if nat_lt n size then Some n else None
-inside size (negsuc n) = None
+abbrev pub place_inside : ℕ → ℤ → Option ℕ
+place_inside size (pos n) = if nat_lt n size then Some n else None
+place_inside size (negsuc n) = None
 
 -- the place of the image that a line names by a distance
-abbrev pub target_of : Image → Item → Option ℕ
-target_of image item = option_and_then (λ d. inside image.size (pos (item.place + item.count) +ℤ d)) (line_distance item.line)
+abbrev pub line_target : Image → Item → Option ℕ
+line_target image item = option_and_then (λ d. place_inside image.size (pos (item.place + item.count) +ℤ d)) (line_distance item.line)
 
 -- ---- the text
 
 -- a place as notes have it: `0x` and hexadecimal digits
-unfoldable pub place_text : ℕ → List ℕ
-place_text x = codes "0x" ++ digits 16 false x
+unfoldable pub hex_place_text : ℕ → List ℕ
+hex_place_text x = codes "0x" ++ digits 16 false x
 
 -- the bytes from a place on, so many of them, each in two hexadecimal digits
 unfoldable pub bytes_text : Image → ℕ → ℕ → List ℕ
@@ -58,16 +58,16 @@ bytes_text image x zero = []
 bytes_text image x (suc n) = hex_text 2 (image_byte image x) ++ bytes_text image (x + 1) n
 
 -- a place behind a line, where it names one: as a comment of the assembly text
-abbrev pub target_text : Option ℕ → List ℕ
-target_text None = []
-target_text (Some x) = codes " ; " ++ place_text x
+abbrev pub target_part : Option ℕ → List ℕ
+target_part None = []
+target_part (Some x) = codes " ; " ++ hex_place_text x
 
 -- the line of a place: the place, the bytes, and the listing's line with the place that it names
-unfoldable pub item_text : Image → Item → List ℕ
-item_text image item =
-    place_text item.place ++ (codes " " ++ (bytes_text image item.place item.count
-    ++ (codes " " ++ (listed_text item.line ++ (target_text (target_of image item) ++ codes "\n")))))
+unfoldable pub place_line : Image → Item → List ℕ
+place_line image item =
+    hex_place_text item.place ++ (codes " " ++ (bytes_text image item.place item.count
+    ++ (codes " " ++ (listed_text item.line ++ (target_part (line_target image item) ++ codes "\n")))))
 
 -- the lines of the places of an image's code
 unfoldable pub places_text : Image → List ℕ
-places_text image = flat_map (item_text image) (items_of image)
+places_text image = flat_map (place_line image) (items_of image)

@@ -11,7 +11,7 @@ ghost use Rattle.cli_base.specs.Outcomes.{IsAnswer, ReadsAll};
 ghost use Rattle.cli_base.specs.Outputs.{printed, written_name};
 ghost use Rattle.cli_base.specs.Readings.{AsksPart, CommandAnswer, Follows, IfStop, MissingHasCause};
 ghost use Rattle.cli_base.specs.Words.{word_bytes};
-ghost use Rattle.code_places.specs.Answers.{Answers, Decides, IsPrinted, ShowsImage, answer_of, answer_text, file_named, run_of};
+ghost use Rattle.code_places.specs.Answers.{Answers, Decides, IsPrinted, ShowsImage, answer_of, answer_text, answer_to_words, file_named};
 ghost use Rattle.code_places.specs.Answers.{usage_reply};
 ghost use Rattle.code_places.specs.Places.{places_text};
 
@@ -32,11 +32,11 @@ pub fn places<F: Folder, O: Sink>(
     // Where the folder tells its files, the outcome and the printed text are those of the answer to the words. The file asked for is the
     // one that they name, also where the output then fails, and at most that where a read failed or memory ran out.
     ensures answer { IfSome (F.contents folder.old) (λ files. IsAnswer result →
-        Answers (run_of (word_bytes words.now) files) result (O.written out.old) (O.written out.new)) }
+        Answers (answer_to_words (word_bytes words.now) files) result (O.written out.old) (O.written out.new)) }
     ensures asked { IfSome (F.contents folder.old) (λ files.
-        ReadsAll result → F.asked folder.new ≡ F.asked folder.old ++ (run_of (word_bytes words.now) files).asked) }
+        ReadsAll result → F.asked folder.new ≡ F.asked folder.old ++ (answer_to_words (word_bytes words.now) files).asked) }
     ensures asked_part { IfSome (F.contents folder.old) (λ files.
-        AsksPart (F.asked folder.old) (run_of (word_bytes words.now) files).asked (F.asked folder.new)) }
+        AsksPart (F.asked folder.old) (answer_to_words (word_bytes words.now) files).asked (F.asked folder.new)) }
 
     // The lines of an image within the limit are printed, each with the listing's line, and they are those that say bytes of its
     // sections with code.
@@ -100,10 +100,10 @@ fn read_places<F: Folder>(alloc: Global, name: &str, folder: &mut F) -> Result<R
 }
 
 // The answer to words, or how the call ends without one.
-#[tactic(auto, unfolding(crate::specs::Answers::run_of))]
+#[tactic(auto, unfolding(crate::specs::Answers::answer_to_words))]
 fn decide<F: Folder>(alloc: Global, words: &Vec<String>, folder: &mut F) -> Result<Reply, Outcome>
     ensures decided { IfSome (F.contents folder.old) (λ files.
-        Decides (F.asked folder.old) (F.asked folder.new) result (run_of (word_bytes words.now) files)) }
+        Decides (F.asked folder.old) (F.asked folder.new) result (answer_to_words (word_bytes words.now) files)) }
     ensures reply { IfOk result (IsPrinted (word_bytes words.now)) }
     ensures missing { IfOk result (λ r.
         MissingHasCause (F.contents folder.old) (F.read_faults folder.old) (F.read_faults folder.new) r.outcome) }

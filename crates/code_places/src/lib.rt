@@ -6,7 +6,7 @@
 //!
 //! `places`, where the folder tells its files:
 //!
-//! - `answer`: an answer and what is printed for it are those of the run that the words ask for (`run_of`).
+//! - `answer`: an answer and what is printed for it are those of the run that the words ask for (`answer_to_words`).
 //! - `asked`: the file asked for is the one that they name, also where a put failed. `asked_part`: with every outcome
 //!   no other file is asked for.
 //! - `shows`: where the one word names a file within the limit that stands for an image (`ShowsImage`), the answer is

@@ -4,9 +4,9 @@ ghost use Rattle.std.specs.List.{flat_map};
 ghost use Rattle.asm_text.specs.Numbers.{hex_text};
 ghost use Rattle.ebc_disasm.specs.CodeItems.{IsItem};
 ghost use Rattle.pe_image.specs.Images.{IsImage};
-ghost use Rattle.code_places.specs.Places.{bytes_text, item_text, place_text, places_text, target_text};
+ghost use Rattle.code_places.specs.Places.{bytes_text, hex_place_text, place_line, places_text, target_part};
 
-use crate::target::target_of;
+use crate::target::line_target;
 use ebc_base::NoMemory;
 use ebc_disasm::{Item, byte_at, code_items};
 use pe_image::Image;
@@ -18,9 +18,9 @@ use std::fmt;
 struct Place(u32);
 
 impl fmt::Display for Place {
-    ghost output = { λ p. Some (place_text p.0) };
+    ghost output = { λ p. Some (hex_place_text p.0) };
 
-    #[tactic(auto, unfolding(crate::specs::Places::place_text))]
+    #[tactic(auto, unfolding(crate::specs::Places::hex_place_text))]
     fn fmt<W: fmt::Write>(&self, f: &mut fmt::Formatter<W>) -> fmt::Result {
         let place = self.0;
         write!(f, "0x{place:x}")
@@ -49,7 +49,7 @@ fn append_bytes(image: &Image, place: u32, count: usize, out: &mut String) -> Re
 
 // Appends the place that a line names, if it names one.
 fn append_target(target: Option<u32>, out: &mut String) -> Result<(), AllocError>
-    ensures { OnOk result (string_bytes out.new ≡ string_bytes out.old ++ target_text target) }
+    ensures { OnOk result (string_bytes out.new ≡ string_bytes out.old ++ target_part target) }
 {
     if let Some(place) = target {
         let place = Place(place);
@@ -59,18 +59,18 @@ fn append_target(target: Option<u32>, out: &mut String) -> Result<(), AllocError
 }
 
 // Appends the line of a place.
-#[tactic(auto, unfolding(crate::specs::Places::item_text))]
+#[tactic(auto, unfolding(crate::specs::Places::place_line))]
 fn append_item(image: &Image, item: &Item, out: &mut String) -> Result<(), NoMemory>
     requires image { IsImage image.now }
     requires item { IsItem item.now }
-    ensures { OnOk result (string_bytes out.new ≡ string_bytes out.old ++ item_text image.now item.now) }
+    ensures { OnOk result (string_bytes out.new ≡ string_bytes out.old ++ place_line image.now item.now) }
 {
     let place = Place(item.place);
     write!(out, "{place} ")?;
     append_bytes(image, item.place, item.count, out)?;
     out.push(' ')?;
     item.line.append_text(out)?;
-    append_target(target_of(image, item), out)?;
+    append_target(line_target(image, item), out)?;
     out.push('\n')?;
     Ok(())
 }

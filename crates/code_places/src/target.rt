@@ -1,7 +1,7 @@
 //! The places that instructions name by their distance.
 ghost use Rattle.std.specs.Prelude.{◌≡◌, ◌+◌, ◌<◌, ◌^◌, pos, ◌+ℤ◌, option_map};
 ghost use Rattle.ebc_disasm.specs.CodeItems.{IsItem};
-ghost use Rattle.code_places.specs.Places.{beside_zero, distance_in, inside, line_distance, target_of};
+ghost use Rattle.code_places.specs.Places.{beside_zero, distance_in, line_distance, line_target, place_inside};
 
 use asm_text::Listed;
 use ebc_disasm::Item;
@@ -55,8 +55,8 @@ fn line_distance(line: &Listed) -> Option<i64>
 }
 
 // The place so far past another, where an image of this size has it.
-fn inside(size: u32, next: u32, distance: i64) -> Option<u32>
-    ensures { result ≡ inside size (pos next +ℤ distance) }
+fn place_inside(size: u32, next: u32, distance: i64) -> Option<u32>
+    ensures { result ≡ place_inside size (pos next +ℤ distance) }
 {
     let place = i64::from(next).checked_add(distance)?;
     if place >= 0 && place < i64::from(size) {
@@ -67,11 +67,11 @@ fn inside(size: u32, next: u32, distance: i64) -> Option<u32>
 }
 
 /// The place of the image that the line of an item names by a distance, if it names one.
-pub(crate) fn target_of(image: &Image, item: &Item) -> Option<u32>
+pub(crate) fn line_target(image: &Image, item: &Item) -> Option<u32>
     requires { IsItem item.now }
-    ensures { result ≡ target_of image.now item.now }
+    ensures { result ≡ line_target image.now item.now }
 {
     let next = item.place + item.count as u32;
     let distance = line_distance(&item.line)?;
-    inside(image.size, next, distance)
+    place_inside(image.size, next, distance)
 }

@@ -7,7 +7,7 @@ use Rattle.std.proofs.Common.{◌⊎◌, Err}
 use Rattle.option_rom.specs.{Images.IsRom, Roms.FailsFirst, Roms.rom_of}
 use Rattle.option_rom.specs.declared.{fault.RomFault.RomFault, image.RomImage.RomImage}
 use Rattle.option_rom.proofs.Walks.{fault-read, read-fault, read-rom, rom-read}
-use Rattle.ebc_cli.specs.{Answers.HasNoText, Answers.IsOutcomeOf, Answers.IsStop, Answers.StopsWith, Reads.CanBeDone}
+use Rattle.ebc_cli.specs.{Answers.HasNoText, Answers.IsOutcomeOfWork, Answers.IsStop, Answers.StopsWith, Reads.CanBeDone}
 use Rattle.ebc_cli.proofs.AnswerLaws.{Answered, can-be-done, names-output, replied}
 use Rattle.ebc_cli.proofs.NumberLemmas.{number-read, number-spelled}
 use Rattle.cli_base.specs.declared.outcome.Outcome.TheVariants as outcomes
@@ -81,22 +81,22 @@ stops-exactly {words = words} {files = files} {outcome = outcome} a wanted stop 
 
 -- ---- and how it completes
 
-done-is : (outcome : Outcome) (work : Work) → outcome ≡ outcomes.Done → IsOutcomeOf outcome work
+done-is : (outcome : Outcome) (work : Work) → outcome ≡ outcomes.Done → IsOutcomeOfWork outcome work
 done-is outcome work e = rw e tt
 
 completes-by : (v : Result Work Reply) (reply : Reply) (outcome : Outcome) → IsReplyOf v reply → outcome ≡ reply.outcome
-    → IfOk v (IsOutcomeOf outcome)
+    → IfOk v (IsOutcomeOfWork outcome)
 completes-by (Err stopped) reply outcome told same = tt
 completes-by (Ok (works.CheckCode code)) reply outcome told same =
     rw (same ∙ outcome-of reply _ told.told) (by_verdict told.verdict)
   where
-    by_verdict : (v : Verdict) → IsOutcomeOf (verdict_reply v).outcome (works.CheckCode code)
+    by_verdict : (v : Verdict) → IsOutcomeOfWork (verdict_reply v).outcome (works.CheckCode code)
     by_verdict Neutral = tt
     by_verdict (Refused place rule) = tt
 completes-by (Ok (works.CheckImage image notes)) reply outcome told same =
     rw (same ∙ outcome-of reply _ told.told) (by_verdict told.verdict)
   where
-    by_verdict : (v : Verdict) → IsOutcomeOf (verdict_reply v).outcome (works.CheckImage image notes)
+    by_verdict : (v : Verdict) → IsOutcomeOfWork (verdict_reply v).outcome (works.CheckImage image notes)
     by_verdict Neutral = tt
     by_verdict (Refused place rule) = tt
 completes-by (Ok (works.ListImage image)) reply outcome told same = done-is outcome _ (same ∙ outcome-of reply _ told)
@@ -107,13 +107,13 @@ completes-by (Ok (works.Run width image notes script steps)) reply outcome told 
 completes-by (Ok (works.Twin image notes script steps)) reply outcome told same =
     rw (same ∙ outcome-of reply _ told.told) (by_step told.report.differ)
   where
-    by_step : (differ : Option ℕ) → IsOutcomeOf (twin_outcome differ) (works.Twin image notes script steps)
+    by_step : (differ : Option ℕ) → IsOutcomeOfWork (twin_outcome differ) (works.Twin image notes script steps)
     by_step None = tt
     by_step (Some step) = tt
 completes-by (Ok (works.Pair a b binds steps)) reply outcome told same =
     rw (same ∙ outcome-of reply _ told.told) (by_step told.report.differ)
   where
-    by_step : (differ : Option ℕ) → IsOutcomeOf (twin_outcome differ) (works.Pair a b binds steps)
+    by_step : (differ : Option ℕ) → IsOutcomeOfWork (twin_outcome differ) (works.Pair a b binds steps)
     by_step None = tt
     by_step (Some step) = tt
 completes-by (Ok (works.Sample sample)) reply outcome told same = done-is outcome _ (same ∙ outcome-of reply _ told.told)
@@ -124,13 +124,13 @@ completes-by (Ok (works.WriteTaken name bytes)) reply outcome told same = done-i
 completes-by (Ok (works.InferPoints name image notes)) reply outcome told same =
     rw (same ∙ outcome-of reply _ told.told) (by_answer told.answer)
   where
-    by_answer : (x : Inferred) → IsOutcomeOf (inferred_reply name notes x).outcome (works.InferPoints name image notes)
+    by_answer : (x : Inferred) → IsOutcomeOfWork (inferred_reply name notes x).outcome (works.InferPoints name image notes)
     by_answer (Points points) = tt
     by_answer (Stuck place rule state) = tt
     by_answer (Many leaders) = tt
 
 pub completes : {words : List (List ℕ)} {files : Files} {outcome : Outcome} {before now : Option (List ℕ)}
-    → Answered words files outcome before now → IfOk (work_of words files).value (IsOutcomeOf outcome)
+    → Answered words files outcome before now → IfOk (work_of words files).value (IsOutcomeOfWork outcome)
 completes {words = words} {files = files} {outcome = outcome} a =
     completes-by (work_of words files).value a.reply outcome a.answer a.same
 

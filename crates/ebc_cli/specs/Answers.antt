@@ -74,15 +74,15 @@ StopsWith (Ok work) outcome = ⊥
 
 -- the outcomes of work whose files were read: `check` and `infer` alone refuse, `twin` and `pair` alone tell runs that differ, and `infer`
 -- alone may still find an image too large
-abbrev pub IsOutcomeOf : Outcome → Work → Type 0
-IsOutcomeOf outcomes.Done work = Unit {0}
-IsOutcomeOf (outcomes.Refused place rule) (works.CheckCode code) = Unit {0}
-IsOutcomeOf (outcomes.Refused place rule) (works.CheckImage image notes) = Unit {0}
-IsOutcomeOf (outcomes.Refused place rule) (works.InferPoints name image notes) = Unit {0}
-IsOutcomeOf (outcomes.Differ step) (works.Twin image notes script steps) = Unit {0}
-IsOutcomeOf (outcomes.Differ step) (works.Pair a b binds steps) = Unit {0}
-IsOutcomeOf (outcomes.TooLarge word) (works.InferPoints name image notes) = Unit {0}
-IsOutcomeOf outcome work = ⊥
+abbrev pub IsOutcomeOfWork : Outcome → Work → Type 0
+IsOutcomeOfWork outcomes.Done work = Unit {0}
+IsOutcomeOfWork (outcomes.Refused place rule) (works.CheckCode code) = Unit {0}
+IsOutcomeOfWork (outcomes.Refused place rule) (works.CheckImage image notes) = Unit {0}
+IsOutcomeOfWork (outcomes.Refused place rule) (works.InferPoints name image notes) = Unit {0}
+IsOutcomeOfWork (outcomes.Differ step) (works.Twin image notes script steps) = Unit {0}
+IsOutcomeOfWork (outcomes.Differ step) (works.Pair a b binds steps) = Unit {0}
+IsOutcomeOfWork (outcomes.TooLarge word) (works.InferPoints name image notes) = Unit {0}
+IsOutcomeOfWork outcome work = ⊥
 
 -- the answer to work has no text: it writes a file, the listing of the image is empty, or the image needs no points
 abbrev pub HasNoText : Work → Type 0

@@ -5,7 +5,7 @@ use Rattle.ebc_cli.specs.declared.command.Command.TheVariants.{Assemble, CheckCo
 use Rattle.ebc_cli.specs.declared.command.Command.TheVariants.{Pair, Sample, TakeRom, Twin, WrapRom}
 use Rattle.ebc_cli.specs.declared.command.DriverFiles.{DriverFiles}
 use Rattle.ebc_cli.specs.declared.width.Width.{Width}
-use Rattle.ebc_cli.specs.Numbers.{identifier_of, is_count, is_number, width_of}
+use Rattle.ebc_cli.specs.Numbers.{identifier_of, is_count, is_decimal_number, width_of}
 
 -- a word that isn't empty names a file
 abbrev pub of_file : (List ℕ → Command) → List ℕ → Option Command
@@ -29,12 +29,12 @@ of_three_files make (b ∷ bytes) (c ∷ others) (d ∷ more) = Some (make (b �
 abbrev pub running_of : Option Width → List ℕ → List ℕ → List ℕ → List ℕ → Option Command
 running_of None image notes script steps = None
 running_of (Some width) image notes script steps =
-    if is_number steps then of_three_files (λ image notes script. Run width image notes script steps) image notes script else None
+    if is_decimal_number steps then of_three_files (λ image notes script. Run width image notes script steps) image notes script else None
 
 -- `twin IMAGE NOTES SCRIPT STEPS`, and so here
 abbrev pub twinning_of : List ℕ → List ℕ → List ℕ → List ℕ → Option Command
 twinning_of image notes script steps =
-    if is_number steps then of_three_files (λ image notes script. Twin image notes script steps) image notes script else None
+    if is_decimal_number steps then of_three_files (λ image notes script. Twin image notes script steps) image notes script else None
 
 -- `sample N`: the number, which isn't 0, is kept as its digits, whatever its size
 abbrev pub sampling_of : List ℕ → Option Command
@@ -42,7 +42,7 @@ sampling_of functions = if is_count functions then Some (Sample functions) else 
 
 -- `rom take ROM NUMBER IMAGE`: the number is kept as its digits, whatever its size
 abbrev pub taking_of : List ℕ → List ℕ → List ℕ → Option Command
-taking_of rom number image = if is_number number then of_two_files (λ rom image. TakeRom rom number image) rom image else None
+taking_of rom number image = if is_decimal_number number then of_two_files (λ rom image. TakeRom rom number image) rom image else None
 
 -- `rom wrap VENDOR DEVICE IMAGE ROM`
 abbrev pub wrapping_of : Option ℕ → Option ℕ → List ℕ → List ℕ → Option Command
@@ -56,7 +56,7 @@ driver_of image notes script =
 
 -- `pair IMAGE NOTES SCRIPT IMAGE2 NOTES2 SCRIPT2 BINDS STEPS`, and so is the number of steps here
 abbrev pub pairing_of : Option DriverFiles → Option DriverFiles → List ℕ → List ℕ → Option Command
-pairing_of (Some a) (Some b) binds steps = if is_number steps then of_file (λ binds. Pair a b binds steps) binds else None
+pairing_of (Some a) (Some b) binds steps = if is_decimal_number steps then of_file (λ binds. Pair a b binds steps) binds else None
 pairing_of a b binds steps = None
 
 -- the command of five words

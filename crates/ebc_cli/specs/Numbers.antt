@@ -9,8 +9,8 @@ use Rattle.ebc_cli.specs.declared.width.Width.TheVariants.{Bits32, Bits64}
 -- ---- identifiers of vendors and devices
 
 -- what a digit counts: `0` to `9`, `a` to `f`
-abbrev pub hex_digit : ℕ → Option ℕ
-hex_digit b =
+abbrev pub digit_value : ℕ → Option ℕ
+digit_value b =
     if nat_le 48 b && nat_le b 57 then Some (b - 48)
     else if nat_le 97 b && nat_le b 102 then Some (b - 87)
     else None
@@ -22,20 +22,20 @@ of_digits a b c d = None
 
 -- the identifier that four lower-case hexadecimal digits spell
 unfoldable pub identifier_of : List ℕ → Option ℕ
-identifier_of (a ∷ b ∷ c ∷ d ∷ []) = of_digits (hex_digit a) (hex_digit b) (hex_digit c) (hex_digit d)
+identifier_of (a ∷ b ∷ c ∷ d ∷ []) = of_digits (digit_value a) (digit_value b) (digit_value c) (digit_value d)
 identifier_of word = None
 
 -- ---- numbers of images in option ROMs, of steps, and of functions
 
 -- decimal digits, the first of several no `0`
-unfoldable pub is_number : List ℕ → Bool
-is_number [] = false
-is_number (b ∷ []) = list_all is_digit (b ∷ [])
-is_number (b ∷ c ∷ bs) = not (b == 48) && list_all is_digit (b ∷ c ∷ bs)
+unfoldable pub is_decimal_number : List ℕ → Bool
+is_decimal_number [] = false
+is_decimal_number (b ∷ []) = list_all is_digit (b ∷ [])
+is_decimal_number (b ∷ c ∷ bs) = not (b == 48) && list_all is_digit (b ∷ c ∷ bs)
 
 -- a number that isn't 0: how many functions a sample has
 abbrev pub is_count : List ℕ → Bool
-is_count word = is_number word && not (bytes_eq word (codes "0"))
+is_count word = is_decimal_number word && not (bytes_eq word (codes "0"))
 
 -- ---- widths
 

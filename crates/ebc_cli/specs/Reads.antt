@@ -31,15 +31,15 @@ use Rattle.ebc_cli.specs.Works.{IsReplyOf, IsReplyTo, plain_code_limit}
 -- ---- what was read
 
 -- a driver of a pair: its image, its notes and its script under them
-pub record IsRead (d : ReadDriver) : Type 0 where
+pub record IsReadDriver (d : ReadDriver) : Type 0 where
   pub image : IsReadImage d.image
   pub notes : IsNotes d.notes
   pub script : IsScript d.notes d.script
 
 -- what was read for a pair: both drivers, and binds that agree with the notes of both
 pub record IsReadPair (a b : ReadDriver) (binds : List Bind) : Type 0 where
-  pub a_read : IsRead a
-  pub b_read : IsRead b
+  pub a_read : IsReadDriver a
+  pub b_read : IsReadDriver b
   pub agree : AllAgree a.notes b.notes binds
 
 -- what was built can be checked and run

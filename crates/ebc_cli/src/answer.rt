@@ -34,7 +34,7 @@ ghost use Rattle.cli_base.specs.Readings.{AsksPart};
 ghost use Rattle.cli_base.specs.Words.{word_bytes};
 ghost use Rattle.ebc_cli.specs.declared.pairing.ReadDriver.{ReadDriver};
 ghost use Rattle.ebc_cli.specs.declared.work.Work.{Work};
-ghost use Rattle.ebc_cli.specs.Answers.{Answers, ChecksCode, ChecksImage, EndsWith, HasNoText, InfersPoints, IsOutcomeOf, IsStop};
+ghost use Rattle.ebc_cli.specs.Answers.{Answers, ChecksCode, ChecksImage, EndsWith, HasNoText, InfersPoints, IsOutcomeOfWork, IsStop};
 ghost use Rattle.ebc_cli.specs.Answers.{LeavesPart, PairsImages, SameForScripts, SamePairForScripts, StopsWith, TwinsImage};
 ghost use Rattle.ebc_cli.specs.Commands.{command_of, output_of};
 ghost use Rattle.ebc_cli.specs.Pairings.{images_of, pair_world_of};
@@ -154,7 +154,7 @@ pub fn ebc<F: Folder, O: Sink>(
     ensures stops_exactly { IfSome (F.contents folder.old) (λ files. IsAnswer result → (outcome : Outcome) → IsStop outcome →
         result ≡ outcome ↔ StopsWith (work_of (word_bytes words.now) files).value outcome) }
     ensures completes { IfSome (F.contents folder.old) (λ files. IsAnswer result →
-        IfOk (work_of (word_bytes words.now) files).value (IsOutcomeOf result)) }
+        IfOk (work_of (word_bytes words.now) files).value (IsOutcomeOfWork result)) }
 
     // Where the answer has no text nothing is put, and then a fault is told only of a file that is written.
     ensures unput { IfSome (F.contents folder.old) (λ files. (work : Work) →

@@ -5,7 +5,7 @@ ghost use Rattle.ebc_cli.specs.Commands.{pairing_of, running_of, sampling_of, ta
 ghost use Rattle.ebc_cli.specs.Numbers.{identifier_of, width_of};
 ghost use Rattle.cli_base.specs.Words.{word_bytes};
 
-use crate::number::{identifier_of, is_count, is_number};
+use crate::number::{identifier_of, is_count, is_decimal_number};
 use crate::width::{Width, width_of};
 use ebc_base::Name;
 use std::alloc::{AllocError, Global};
@@ -141,7 +141,7 @@ fn name_of(alloc: Global, word: &String) -> Result<Name, AllocError>
     Ok(Name::new(String::from_str(alloc, word.as_str())?))
 }
 
-#[tactic(auto, unfolding(crate::specs::Numbers::is_number))]
+#[tactic(auto, unfolding(crate::specs::Numbers::is_decimal_number))]
 fn with_one_file(alloc: Global, word: &String, file: &String) -> Result<Option<Command>, AllocError>
     ensures { IfOk result (λ command. command ≡ command_of (string_bytes word.now ∷ string_bytes file.now ∷ [])) }
 {
@@ -337,7 +337,7 @@ fn running(
     let Some(width) = width_of(width.as_str()) else {
         return Ok(None);
     };
-    if !is_number(steps.as_str()) {
+    if !is_decimal_number(steps.as_str()) {
         return Ok(None);
     }
     if image.len() == 0 || notes.len() == 0 || script.len() == 0 {
@@ -362,7 +362,7 @@ fn twinning(
     ensures { IfOk result (λ command. command ≡ twinning_of (string_bytes image.now) (string_bytes notes.now)
         (string_bytes script.now) (string_bytes steps.now)) }
 {
-    if !is_number(steps.as_str()) {
+    if !is_decimal_number(steps.as_str()) {
         return Ok(None);
     }
     if image.len() == 0 || notes.len() == 0 || script.len() == 0 {
@@ -404,7 +404,7 @@ fn pairing(
         (driver_of (string_bytes b.now.image.now) (string_bytes b.now.notes.now) (string_bytes b.now.script.now))
         (string_bytes binds.now) (string_bytes steps.now)) }
 {
-    if !is_number(steps.as_str()) || binds.len() == 0 {
+    if !is_decimal_number(steps.as_str()) || binds.len() == 0 {
         return Ok(None);
     }
     let binds = name_of(alloc, binds)?;
@@ -437,7 +437,7 @@ fn rom_taking(
 ) -> Result<Option<Command>, AllocError>
     ensures { IfOk result (λ command. command ≡ taking_of (string_bytes rom.now) (string_bytes number.now) (string_bytes image.now)) }
 {
-    if !is_number(number.as_str()) {
+    if !is_decimal_number(number.as_str()) {
         return Ok(None);
     }
     if rom.len() == 0 || image.len() == 0 {

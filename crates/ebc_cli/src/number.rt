@@ -2,11 +2,11 @@
 ghost use Rattle.std.specs.Prelude.{◌≡◌, ◌<◌, IfSome};
 ghost use Rattle.std.specs.List.{list_all};
 ghost use Rattle.ebc_base.specs.Names.{is_digit};
-ghost use Rattle.ebc_cli.specs.Numbers.{hex_digit, identifier_of, is_count, is_number};
+ghost use Rattle.ebc_cli.specs.Numbers.{digit_value, identifier_of, is_count, is_decimal_number};
 
 // What a hexadecimal digit counts, of which the letters are lower-case.
-fn hex_digit(byte: u8) -> Option<u8>
-    ensures value { result ≡ hex_digit byte }
+fn digit_value(byte: u8) -> Option<u8>
+    ensures value { result ≡ digit_value byte }
     ensures below { IfSome result (λ d. d < 16) }
 {
     match byte {
@@ -23,10 +23,10 @@ pub fn identifier_of(word: &str) -> Option<u16>
 {
     match word.as_bytes() {
         [a, b, c, d] => {
-            let a = u16::from(hex_digit(*a)?);
-            let b = u16::from(hex_digit(*b)?);
-            let c = u16::from(hex_digit(*c)?);
-            let d = u16::from(hex_digit(*d)?);
+            let a = u16::from(digit_value(*a)?);
+            let b = u16::from(digit_value(*b)?);
+            let c = u16::from(digit_value(*c)?);
+            let d = u16::from(digit_value(*d)?);
             Some(4096 * a + 256 * b + 16 * c + d)
         }
         _ => None,
@@ -46,9 +46,9 @@ fn all_digits(bytes: &[u8]) -> bool
 }
 
 /// Whether a word is a number in decimal digits with no leading zero, whatever its size.
-#[tactic(auto, unfolding(crate::specs::Numbers::is_number))]
-pub fn is_number(word: &str) -> bool
-    ensures { result ≡ is_number word.now }
+#[tactic(auto, unfolding(crate::specs::Numbers::is_decimal_number))]
+pub fn is_decimal_number(word: &str) -> bool
+    ensures { result ≡ is_decimal_number word.now }
 {
     match word.as_bytes() {
         [] => false,
@@ -63,5 +63,5 @@ pub fn is_number(word: &str) -> bool
 pub fn is_count(word: &str) -> bool
     ensures { result ≡ is_count word.now }
 {
-    is_number(word) && word != "0"
+    is_decimal_number(word) && word != "0"
 }

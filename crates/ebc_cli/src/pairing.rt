@@ -5,7 +5,7 @@ ghost use Rattle.pair_model.specs.Binds.{AllAgree};
 ghost use Rattle.ebc_cli.specs.Inputs.{binds_limit, binds_meaning};
 ghost use Rattle.file_inputs.specs.Inputs.{input};
 ghost use Rattle.ebc_cli.specs.Pairings.{TellsPair, driver_files, pair_files, pair_twin_text, unnotified};
-ghost use Rattle.ebc_cli.specs.Reads.{IsRead, IsReadPair};
+ghost use Rattle.ebc_cli.specs.Reads.{IsReadDriver, IsReadPair};
 ghost use Rattle.file_inputs.specs.Reads.{Reads};
 ghost use Rattle.cli_base.specs.Inputs.{Means};
 ghost use Rattle.cli_base.specs.Outcomes.{IsBadInput, IsWorkAnswer};
@@ -67,7 +67,7 @@ fn read_driver<F: Folder>(
     requires { word < 5 }
     ensures reads { Reads F.contents F.asked F.read_faults F.write_faults folder.old folder.new result
         (driver_files word names.now) }
-    ensures read { IfOk result IsRead }
+    ensures read { IfOk result IsReadDriver }
 {
     let (image, notes, script) = read_run(
         alloc,

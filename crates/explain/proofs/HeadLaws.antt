@@ -7,7 +7,7 @@ use Rattle.std.proofs.lemmas.List.{append-nil}
 use Rattle.note_types.specs.declared.rule.RuleName.{RuleName}
 use Rattle.note_types.specs.declared.rule.RuleName.TheVariants as rules
 use Rattle.explain.specs.Heads.{BeginsWith, place_told}
-use Rattle.explain.specs.Shown.{shown}
+use Rattle.explain.specs.Shown.{shown_chars}
 
 pub begins-same : (a : List ℕ) → BeginsWith a a
 begins-same a = record { rest = []; joined = sym (append-nil a) }
@@ -32,13 +32,13 @@ ended-some [] = λ e. cc
 ended-some (x ∷ a) = λ e. cc
 
 -- where objects are named nothing is said of the name
-pub begins-unnamed : (named : Bool) (word t : List ℕ) → named ≡ true → BeginsWith (shown (if named then [] else word)) t
+pub begins-unnamed : (named : Bool) (word t : List ℕ) → named ≡ true → BeginsWith (shown_chars (if named then [] else word)) t
 unfolding chars
 begins-unnamed true word t e = record { rest = t; joined = refl }
 begins-unnamed false word t e = cc
 
 -- any text begins with nothing
-pub begins-nothing : (t : List ℕ) → BeginsWith (shown []) t
+pub begins-nothing : (t : List ℕ) → BeginsWith (shown_chars []) t
 unfolding chars
 begins-nothing t = record { rest = t; joined = refl }
 

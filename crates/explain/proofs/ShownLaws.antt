@@ -9,7 +9,8 @@ use Rattle.std.proofs.lemmas.Grind.{common_steps}
 use Rattle.std.proofs.lemmas.List.{append-nil, drop_more}
 use Rattle.std.proofs.lemmas.List.Folds.{list_all-append}
 use Rattle.std.proofs.lemmas.Str.{encodes-append, encode_ascii}
-use Rattle.explain.specs.Shown.{IsShown, is_control, is_lined, hex_digit, shown_char, shown_control}
+use Rattle.note_texts.specs.KeyTexts.{escape_of, hex_digit}
+use Rattle.explain.specs.Shown.{IsShown, is_control, is_lined, shown_char}
 
 -- nothing, and the end of a line
 pub nothing-shown : IsShown []
@@ -45,7 +46,7 @@ other-lined true = refl
 other-lined false = refl
 
 -- a control as it is shown
-control-shown : (c : ℕ) → is_control c ≡ true → IsShown (shown_control c)
+control-shown : (c : ℕ) → is_control c ≡ true → IsShown (escape_of c)
 unfolding encode_utf8
 control-shown c h =
     let below : c < 160 = grind arith in
@@ -54,7 +55,7 @@ control-shown c h =
     let x = digit-bounds (c / 16) high in
     let y = digit-bounds (c % 16) low in
     record {
-      characters = shown_control c;
+      characters = escape_of c;
       spelled = rw (encode_ascii (hex_digit (c / 16)) (omega (arith, x)), encode_ascii (hex_digit (c % 16)) (omega (arith, y))) refl;
       lined =
           rw (plain-lined (hex_digit (c / 16)) (omega (arith, x)) (omega (arith, x)))
@@ -74,7 +75,7 @@ pub char-shown : (c : ℕ) → IsShown (shown_char c)
 unfolding shown_char
 char-shown c = by_control (is_control c) refl
   where
-    by_control : (b : Bool) → is_control c ≡ b → IsShown (cond b (shown_control c) (encode_utf8 c))
+    by_control : (b : Bool) → is_control c ≡ b → IsShown (cond b (escape_of c) (encode_utf8 c))
     by_control true h = control-shown c h
     by_control false h = other-shown c h
 

@@ -15,14 +15,14 @@ unfoldable pub number_text : ℕ → List ℕ
 number_text n = codes "0x" ++ digits 16 false n
 
 -- a place of a function, as `main+0x12`, or of none, as `0x1012`
-abbrev pub place_in : Option FnNote → ℕ → List ℕ
-place_in (Some f) place = f.name ++ (codes "+" ++ number_text (place - f.place))
-place_in None place = number_text place
+abbrev pub function_place_text : Option FnNote → ℕ → List ℕ
+function_place_text (Some f) place = f.name ++ (codes "+" ++ number_text (place - f.place))
+function_place_text None place = number_text place
 
 -- a place by the function of the notes that it belongs to, and as a number if no notes are known
-abbrev pub place_by : Option Notes → ℕ → List ℕ
-place_by (Some notes) place = place_in (function_at notes place) place
-place_by None place = number_text place
+abbrev pub noted_place_text : Option Notes → ℕ → List ℕ
+noted_place_text (Some notes) place = function_place_text (function_at notes place) place
+noted_place_text None place = number_text place
 
 -- the notes that a text stands for, if it has at most 1 MiB
 abbrev pub notes_within : Option (List ℕ) → Option Notes

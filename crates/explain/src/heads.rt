@@ -2,7 +2,7 @@
 ghost use Rattle.std.specs.Prelude.{◌≡◌, IfOk, Some, string_bytes};
 ghost use Rattle.note_types.specs.Records.{function_at};
 ghost use Rattle.explain.specs.Heads.{code_head, image_head, place_told, rule_head};
-ghost use Rattle.explain.specs.Places.{number_text, place_in};
+ghost use Rattle.explain.specs.Places.{function_place_text, number_text};
 
 use ebc_base::NoMemory;
 use note_types::{Notes, RuleName};
@@ -34,7 +34,7 @@ pub(crate) fn number_text(alloc: Global, place: u32) -> Result<String, NoMemory>
 
 /// A place of an image by the function that it belongs to, as `main+0x12`, or as a number.
 pub(crate) fn place_text(alloc: Global, notes: &Notes, place: u32) -> Result<String, NoMemory>
-    ensures { IfOk result (λ text. string_bytes text ≡ place_in (function_at notes.now place) place) }
+    ensures { IfOk result (λ text. string_bytes text ≡ function_place_text (function_at notes.now place) place) }
 {
     let Some(f) = function_at(notes, place) else {
         return number_text(alloc, place);

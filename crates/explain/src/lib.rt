@@ -10,7 +10,7 @@
 //!     controls, too.
 //!   - `done`: nothing is said of an answer that is done, unless a run ended otherwise than finished.
 //!   - `says`: of each other answer than one that is done something is said.
-//!   - `agrees`: the first line begins with the file of the outcome, or with the program (`head_of`). Of a refusal the
+//!   - `agrees`: the first line begins with the file of the outcome, or with the program (`outcome_head`). Of a refusal the
 //!     place and the rule follow. Of `check IMAGE NOTES` and `infer` the place is told by the function that has it in the
 //!     notes that were kept. Of `check CODE` it is the offset, and of `ebc_notes` the place as a number. Of a file that
 //!     isn't of its form, with the words of `link` or `ebc_notes`, the clause says nothing. Nor does it of a file that

@@ -1,7 +1,7 @@
 //! The lines that are said of an answer.
 ghost use Rattle.std.specs.Prelude.{◌≡◌, ◌≢◌, [], ◌++◌, IfOk, OnOk};
 ghost use Rattle.explain.specs.Heads.{BeginsWith};
-ghost use Rattle.explain.specs.Shown.{shown};
+ghost use Rattle.explain.specs.Shown.{shown_chars};
 
 use crate::told::Told;
 use ebc_base::Name;
@@ -61,7 +61,7 @@ pub fn add_said(
     said: &Said,
     told: &mut Told,
 ) -> Result<(), AllocError>
-    ensures begins { OnOk result (BeginsWith (told.old ++ shown head.now) told.new) }
+    ensures begins { OnOk result (BeginsWith (told.old ++ shown_chars head.now) told.new) }
     ensures says { OnOk result (told.new ≢ []) }
 {
     told.part(alloc, head)?;
@@ -77,7 +77,7 @@ pub(crate) fn said_lines(
     tail: &str,
     said: &Said,
 ) -> Result<Told, AllocError>
-    ensures begins { IfOk result (λ told. BeginsWith (shown head.now) told) }
+    ensures begins { IfOk result (λ told. BeginsWith (shown_chars head.now) told) }
     ensures says { IfOk result (λ told. told ≢ []) }
 {
     let mut told = Told::new(alloc);

@@ -1,9 +1,9 @@
 //! What is said of an answer.
 ghost use Rattle.std.specs.Prelude.{◌≡◌, ◌≢◌, [], false, IfOk, string_bytes};
 ghost use Rattle.cli_base.specs.Words.{word_bytes};
-ghost use Rattle.explain_answers.specs.Words.{name_of};
-ghost use Rattle.explain.specs.Heads.{BeginsWith, asked_or, bad_file, error_head, head_of, missing_file};
-ghost use Rattle.explain.specs.Shown.{IsShown, shown};
+ghost use Rattle.explain_answers.specs.Words.{program_name};
+ghost use Rattle.explain.specs.Heads.{BeginsWith, asked_or, bad_file, error_head, missing_file, outcome_head};
+ghost use Rattle.explain.specs.Shown.{IsShown, shown_chars};
 
 use crate::lines::{add_said, said_lines};
 use crate::refused::refused_lines;
@@ -35,7 +35,7 @@ fn tail_of(answer: &Answer, said: &Said, label: &str) -> Result<String, NoMemory
 
 // What is said of a place of a file, or of a program.
 fn place_lines(answer: &Answer, file: &str, said: &Said) -> Result<Told, NoMemory>
-    ensures begins { IfOk result (λ told. BeginsWith (shown file.now) told) }
+    ensures begins { IfOk result (λ told. BeginsWith (shown_chars file.now) told) }
     ensures says { IfOk result (λ told. told ≢ []) }
 {
     let tail = tail_of(answer, said, ": error")?;
@@ -44,7 +44,7 @@ fn place_lines(answer: &Answer, file: &str, said: &Said) -> Result<Told, NoMemor
 
 // What is said of a file or a program as a whole.
 fn error_lines(answer: &Answer, name: &str, said: &Said) -> Result<Told, NoMemory>
-    ensures begins { IfOk result (λ told. BeginsWith (shown (error_head name.now)) told) }
+    ensures begins { IfOk result (λ told. BeginsWith (shown_chars (error_head name.now)) told) }
     ensures says { IfOk result (λ told. told ≢ []) }
 {
     let alloc = answer.alloc;
@@ -54,7 +54,7 @@ fn error_lines(answer: &Answer, name: &str, said: &Said) -> Result<Told, NoMemor
 
 // What is said of the program.
 fn program_lines(answer: &Answer, said: &Said) -> Result<Told, NoMemory>
-    ensures begins { IfOk result (λ told. BeginsWith (shown (error_head (name_of answer.now.program))) told) }
+    ensures begins { IfOk result (λ told. BeginsWith (shown_chars (error_head (program_name answer.now.program))) told) }
     ensures says { IfOk result (λ told. told ≢ []) }
 {
     error_lines(answer, answer.program.name(), said)
@@ -81,7 +81,7 @@ fn missing_file<'a>(answer: &Answer<'a>, number: u8) -> &'a str
 
 // What is said of a file that isn't there.
 fn missing_lines(answer: &Answer, number: u8) -> Result<Told, NoMemory>
-    ensures begins { IfOk result (λ told. BeginsWith (shown (error_head
+    ensures begins { IfOk result (λ told. BeginsWith (shown_chars (error_head
         (missing_file answer.now.program (word_bytes answer.now.words.now) answer.now.asked.now number))) told) }
     ensures says { IfOk result (λ told. told ≢ []) }
 {
@@ -91,7 +91,7 @@ fn missing_lines(answer: &Answer, number: u8) -> Result<Told, NoMemory>
 // What is said of a file that can't be read.
 fn unread_lines(answer: &Answer) -> Result<Told, NoMemory>
     ensures begins { IfOk result (λ told.
-        BeginsWith (shown (error_head (asked_or answer.now.asked.now (name_of answer.now.program)))) told) }
+        BeginsWith (shown_chars (error_head (asked_or answer.now.asked.now (program_name answer.now.program)))) told) }
     ensures says { IfOk result (λ told. told ≢ []) }
 {
     let name = asked_or(answer.asked, answer.program.name());
@@ -100,7 +100,8 @@ fn unread_lines(answer: &Answer) -> Result<Told, NoMemory>
 
 // What is said of the file that a word names, or of an object.
 fn bad_file_lines(answer: &Answer, number: u8, said: &Said) -> Result<Told, NoMemory>
-    ensures begins { IfOk result (λ told. BeginsWith (shown (bad_file answer.now.program (word_bytes answer.now.words.now) number)) told) }
+    ensures begins { IfOk result (λ told. BeginsWith
+        (shown_chars (bad_file answer.now.program (word_bytes answer.now.words.now) number)) told) }
     ensures says { IfOk result (λ told. told ≢ []) }
 {
     let word = answer.word(number as usize);
@@ -122,7 +123,8 @@ fn bad_lines(
     fault: u8,
     folder: &mut MemFolder,
 ) -> Result<Told, NoMemory>
-    ensures begins { IfOk result (λ told. BeginsWith (shown (bad_file answer.now.program (word_bytes answer.now.words.now) number)) told) }
+    ensures begins { IfOk result (λ told. BeginsWith
+        (shown_chars (bad_file answer.now.program (word_bytes answer.now.words.now) number)) told) }
     ensures says { IfOk result (λ told. told ≢ []) }
 {
     let said = match bad_said(answer, number as usize, folder)? {
@@ -169,7 +171,7 @@ fn other_lines(answer: &Answer, said: &Said) -> Result<Told, NoMemory>
 }
 
 fn no_memory_lines(answer: &Answer) -> Result<Told, NoMemory>
-    ensures begins { IfOk result (λ told. BeginsWith (shown (error_head (name_of answer.now.program))) told) }
+    ensures begins { IfOk result (λ told. BeginsWith (shown_chars (error_head (program_name answer.now.program))) told) }
     ensures says { IfOk result (λ told. told ≢ []) }
 {
     program_lines(answer, &Said::text(answer.alloc, "memory ran out"))
@@ -180,7 +182,8 @@ fn lines_of(answer: &Answer, folder: &mut MemFolder) -> Result<Told, NoMemory>
     ensures done { answer.now.outcome ≡ Outcome.Done → answer.now.amiss ≡ false → IfOk result (λ told. told ≡ []) }
     ensures says { answer.now.outcome ≢ Outcome.Done → IfOk result (λ told. told ≢ []) }
     ensures agrees { IfOk result (λ told. BeginsWith
-        (shown (head_of answer.now.program (word_bytes answer.now.words.now) answer.now.asked.now folder.old.files answer.now.outcome))
+        (shown_chars (outcome_head answer.now.program (word_bytes answer.now.words.now) answer.now.asked.now
+        folder.old.files answer.now.outcome))
         told) }
 {
     match answer.outcome {
@@ -214,7 +217,8 @@ pub fn explanation(answer: &Answer, folder: MemFolder) -> Result<String, NoMemor
 
     // The first line begins with the file of the outcome or with the program, and of a refusal with its place and its rule, too.
     ensures agrees { IfOk result (λ text. BeginsWith
-        (shown (head_of answer.now.program (word_bytes answer.now.words.now) answer.now.asked.now folder.files answer.now.outcome))
+        (shown_chars (outcome_head answer.now.program (word_bytes answer.now.words.now) answer.now.asked.now
+        folder.files answer.now.outcome))
         (string_bytes text)) }
 {
     let mut folder = folder;

@@ -2,10 +2,10 @@
 ghost use Rattle.std.specs.Prelude.{◌≡◌, ◌≢◌, [], Some, IfOk, IfSome, option_map};
 ghost use Rattle.cli_base.specs.Words.{word_bytes};
 ghost use Rattle.note_types.specs.Records.{IsNotes};
-ghost use Rattle.explain_answers.specs.Words.{word_at};
+ghost use Rattle.explain_answers.specs.Words.{word_or_empty};
 ghost use Rattle.explain.specs.Heads.{BeginsWith, code_head, image_head, refused_head};
-ghost use Rattle.explain.specs.Places.{notes_named, number_text, place_by};
-ghost use Rattle.explain.specs.Shown.{shown};
+ghost use Rattle.explain.specs.Places.{noted_place_text, notes_named, number_text};
+ghost use Rattle.explain.specs.Shown.{shown_chars};
 
 use crate::heads::{code_head, image_head, number_text, place_text};
 use crate::lines::said_lines;
@@ -26,7 +26,7 @@ fn kept_notes(
     folder: &mut MemFolder,
 ) -> Result<Option<(Notes, Sequence<u8>)>, NoMemory>
     ensures notes { IfOk result (λ kept.
-        option_map (λ read. read.0) kept ≡ notes_named folder.old.files (word_at (word_bytes answer.now.words.now) 2)) }
+        option_map (λ read. read.0) kept ≡ notes_named folder.old.files (word_or_empty (word_bytes answer.now.words.now) 2)) }
     ensures conditions { IfOk result (λ kept. IfSome kept (λ read. IsNotes read.0)) }
 {
     match read_with_bytes::<Notes, MemFolder>(answer.alloc, folder, 2, answer.word(2)) {
@@ -47,7 +47,7 @@ fn image_lines(
     rule: RuleName,
     said: &Said,
 ) -> Result<Told, NoMemory>
-    ensures begins { IfOk result (λ told. BeginsWith (shown (image_head file.now place.now rule)) told) }
+    ensures begins { IfOk result (λ told. BeginsWith (shown_chars (image_head file.now place.now rule)) told) }
     ensures says { IfOk result (λ told. told ≢ []) }
 {
     let head = image_head(answer.alloc, file, place, rule)?;
@@ -56,7 +56,7 @@ fn image_lines(
 
 // The lines of a refused image of which nothing more is known.
 fn bare_lines(answer: &Answer, file: &str, place: u32, rule: RuleName) -> Result<Told, NoMemory>
-    ensures begins { IfOk result (λ told. BeginsWith (shown (image_head file.now (number_text place) rule)) told) }
+    ensures begins { IfOk result (λ told. BeginsWith (shown_chars (image_head file.now (number_text place) rule)) told) }
     ensures says { IfOk result (λ told. told ≢ []) }
 {
     let said = rule_said(answer, rule);
@@ -75,7 +75,8 @@ fn noted_lines(
 ) -> Result<Told, NoMemory>
     requires { IsNotes notes.now }
     ensures begins { IfOk result (λ told. BeginsWith
-        (shown (image_head (word_at (word_bytes answer.now.words.now) 1) (place_by (Some notes.now) place) rule)) told) }
+        (shown_chars (image_head (word_or_empty (word_bytes answer.now.words.now) 1)
+        (noted_place_text (Some notes.now) place) rule)) told) }
     ensures says { IfOk result (λ told. told ≢ []) }
 {
     let said = refused_image_said(answer, notes, text, place, rule, folder)?;
@@ -91,8 +92,8 @@ fn checked_lines(
     folder: &mut MemFolder,
 ) -> Result<Told, NoMemory>
     ensures begins { IfOk result (λ told. BeginsWith
-        (shown (image_head (word_at (word_bytes answer.now.words.now) 1)
-        (place_by (notes_named folder.old.files (word_at (word_bytes answer.now.words.now) 2)) place) rule)) told) }
+        (shown_chars (image_head (word_or_empty (word_bytes answer.now.words.now) 1)
+        (noted_place_text (notes_named folder.old.files (word_or_empty (word_bytes answer.now.words.now) 2)) place) rule)) told) }
     ensures says { IfOk result (λ told. told ≢ []) }
 {
     match kept_notes(answer, folder)? {
@@ -109,7 +110,7 @@ fn completed_lines(
     folder: &mut MemFolder,
 ) -> Result<Told, NoMemory>
     ensures begins { IfOk result (λ told. BeginsWith
-        (shown (image_head (word_at (word_bytes answer.now.words.now) 1) (number_text place) rule)) told) }
+        (shown_chars (image_head (word_or_empty (word_bytes answer.now.words.now) 1) (number_text place) rule)) told) }
     ensures says { IfOk result (λ told. told ≢ []) }
 {
     match completed_said(answer, Labelled::Refused { place, rule }, folder)? {
@@ -128,7 +129,8 @@ fn code_lines(
     rule: RuleName,
     folder: &mut MemFolder,
 ) -> Result<Told, NoMemory>
-    ensures begins { IfOk result (λ told. BeginsWith (shown (code_head (word_at (word_bytes answer.now.words.now) 1) place rule)) told) }
+    ensures begins { IfOk result (λ told. BeginsWith
+        (shown_chars (code_head (word_or_empty (word_bytes answer.now.words.now) 1) place rule)) told) }
     ensures says { IfOk result (λ told. told ≢ []) }
 {
     let said = refused_code_said(answer, place, rule, folder)?;
@@ -144,7 +146,7 @@ pub(crate) fn refused_lines(
     folder: &mut MemFolder,
 ) -> Result<Told, NoMemory>
     ensures begins { IfOk result (λ told. BeginsWith
-        (shown (refused_head answer.now.program (word_bytes answer.now.words.now) folder.old.files place rule)) told) }
+        (shown_chars (refused_head answer.now.program (word_bytes answer.now.words.now) folder.old.files place rule)) told) }
     ensures says { IfOk result (λ told. told ≢ []) }
 {
     match answer.program {

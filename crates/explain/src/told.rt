@@ -1,6 +1,7 @@
 //! Lines that are told: no control character stands in them.
 ghost use Rattle.std.specs.Prelude.{◌≡◌, ℕ, ◌<◌, [], ◌∷◌, ◌++◌, IfOk, OnOk, codes, string_bytes};
-ghost use Rattle.explain.specs.Shown.{IsShown, hex_digit, is_control, shown, shown_char, shown_control};
+ghost use Rattle.note_texts.specs.KeyTexts.{escape_of, hex_digit};
+ghost use Rattle.explain.specs.Shown.{IsShown, is_control, shown_char, shown_chars};
 
 use std::alloc::{AllocError, Global};
 use std::marker::Model;
@@ -43,7 +44,7 @@ fn hex_digit(number: u8) -> u8
 
 // Adds `\u` and four hexadecimal digits.
 fn push_control(text: &mut String, byte: u8) -> Result<(), AllocError>
-    ensures { OnOk result (string_bytes text.new ≡ string_bytes text.old ++ shown_control byte) }
+    ensures { OnOk result (string_bytes text.new ≡ string_bytes text.old ++ escape_of byte) }
 {
     text.push_str("\\u00")?;
     text.push(char::from(hex_digit(byte / 16)))?;
@@ -63,8 +64,8 @@ fn push_shown(text: &mut String, c: char) -> Result<(), AllocError>
 }
 
 // A text as it is shown.
-fn shown(alloc: Global, text: &str) -> Result<String, AllocError>
-    ensures text { IfOk result (λ out. string_bytes out ≡ shown text.now) }
+fn shown_chars(alloc: Global, text: &str) -> Result<String, AllocError>
+    ensures text { IfOk result (λ out. string_bytes out ≡ shown_chars text.now) }
     ensures shown { IfOk result (λ out. IsShown (string_bytes out)) }
 {
     let mut out = String::new(alloc);
@@ -95,9 +96,9 @@ impl Told {
 
     /// Adds a part of a line, in which a control stands as `\u` and four hexadecimal digits.
     pub fn part(&mut self, alloc: Global, text: &str) -> Result<(), AllocError>
-        ensures { OnOk result (self.new ≡ self.old ++ shown text.now) }
+        ensures { OnOk result (self.new ≡ self.old ++ shown_chars text.now) }
     {
-        let text = shown(alloc, text)?;
+        let text = shown_chars(alloc, text)?;
         self.text.push_str(text.as_str())
     }
 
@@ -110,7 +111,7 @@ impl Told {
 
     /// Adds a line, with what stands before it.
     pub fn line(&mut self, alloc: Global, before: &str, text: &str) -> Result<(), AllocError>
-        ensures { OnOk result (self.new ≡ self.old ++ (shown before.now ++ (shown text.now ++ 10 ∷ []))) }
+        ensures { OnOk result (self.new ≡ self.old ++ (shown_chars before.now ++ (shown_chars text.now ++ 10 ∷ []))) }
     {
         self.part(alloc, before)?;
         self.part(alloc, text)?;

@@ -6,7 +6,7 @@ use Rattle.pe_image.specs.Mapped.{AreBytes}
 use Rattle.explain_answers.specs.declared.driver.Driver.{Driver}
 
 -- the image, the notes and the script of a driver can be run
-pub record IsDriver (driver : Driver) : Type 0 where
+pub record IsRunnableDriver (driver : Driver) : Type 0 where
   pub image : IsImage driver.image
   pub bytes : AreBytes driver.image
   pub notes : IsNotes driver.notes

@@ -10,26 +10,26 @@ abbrev pub or_empty : Option (List ℕ) → List ℕ
 or_empty (Some word) = word
 or_empty None = []
 
-abbrev pub word_at : List (List ℕ) → ℕ → List ℕ
-word_at words number = or_empty (slice_get words number)
+abbrev pub word_or_empty : List (List ℕ) → ℕ → List ℕ
+word_or_empty words number = or_empty (slice_get words number)
 
 -- the name of a program
-abbrev pub name_of : Program → List ℕ
-name_of programs.Ebc = codes "ebc"
-name_of programs.EbcPlaces = codes "ebc_places"
-name_of programs.EbcNotes = codes "ebc_notes"
-name_of programs.EbcLint = codes "ebc_lint"
+abbrev pub program_name : Program → List ℕ
+program_name programs.Ebc = codes "ebc"
+program_name programs.EbcPlaces = codes "ebc_places"
+program_name programs.EbcNotes = codes "ebc_notes"
+program_name programs.EbcLint = codes "ebc_lint"
 
 -- whether one of the words is a plan, whose objects may be what is at fault
 abbrev pub names_objects : Program → List (List ℕ) → Bool
-names_objects programs.Ebc words = bytes_eq (word_at words 0) (codes "link")
+names_objects programs.Ebc words = bytes_eq (word_or_empty words 0) (codes "link")
 names_objects programs.EbcPlaces words = false
 names_objects programs.EbcNotes words = true
 names_objects programs.EbcLint words = false
 
 -- whether raw code is checked: `check CODE`
 abbrev pub checks_code : Program → List (List ℕ) → Bool
-checks_code programs.Ebc words = bytes_eq (word_at words 0) (codes "check") && (length words == 2)
+checks_code programs.Ebc words = bytes_eq (word_or_empty words 0) (codes "check") && (length words == 2)
 checks_code programs.EbcPlaces words = false
 checks_code programs.EbcNotes words = false
 checks_code programs.EbcLint words = false

@@ -1,7 +1,7 @@
 //! An answer that is explained.
 ghost use Rattle.std.specs.Prelude.{◌≡◌};
 ghost use Rattle.cli_base.specs.Words.{word_bytes};
-ghost use Rattle.explain_answers.specs.Words.{checks_code, names_objects, word_at};
+ghost use Rattle.explain_answers.specs.Words.{checks_code, names_objects, word_or_empty};
 
 use crate::printed::PrintedFault;
 use crate::program::{Program, Slot, Use, command_slots, notes_slots};
@@ -67,7 +67,7 @@ impl<'a> Answer<'a> {
 
     /// A word by its number, counted from 0; empty if there is none.
     pub fn word(&self, number: usize) -> &'a str
-        ensures { result.now ≡ word_at (word_bytes self.now.words.now) number }
+        ensures { result.now ≡ word_or_empty (word_bytes self.now.words.now) number }
     {
         match self.words.as_slice().get(number) {
             Some(word) => word.as_str(),

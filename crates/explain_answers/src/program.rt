@@ -1,6 +1,6 @@
 //! The programs, and what their words stand for.
 ghost use Rattle.std.specs.Prelude.{◌≡◌};
-ghost use Rattle.explain_answers.specs.Words.{name_of};
+ghost use Rattle.explain_answers.specs.Words.{program_name};
 
 /// A program whose answers are explained.
 #[derive(Clone, Copy)]
@@ -14,7 +14,7 @@ pub enum Program {
 impl Program {
     /// Its name.
     pub fn name(&self) -> &'static str
-        ensures { result.now ≡ name_of self.now }
+        ensures { result.now ≡ program_name self.now }
     {
         match self {
             Program::Ebc => "ebc",

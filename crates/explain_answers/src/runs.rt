@@ -2,7 +2,7 @@
 ghost use Rattle.std.specs.Prelude.{IfSome};
 ghost use Rattle.ebc_width.specs.Width.{IsWidth};
 ghost use Rattle.pair_model.specs.Binds.{AllAgree};
-ghost use Rattle.explain_answers.specs.Drivers.{IsDriver};
+ghost use Rattle.explain_answers.specs.Drivers.{IsRunnableDriver};
 
 use crate::answer::Answer;
 use crate::driver::Driver;
@@ -25,7 +25,7 @@ use twin_run::{RunReport, run};
 
 // The driver of three words from this one on, if its files were kept.
 fn driver_of(answer: &Answer, first: usize, folder: &mut MemFolder) -> Option<Driver>
-    ensures { IfSome result IsDriver }
+    ensures { IfSome result IsRunnableDriver }
 {
     let alloc = answer.alloc;
     let Ok(image) = read_as::<Image, MemFolder>(alloc, folder, 1, answer.word(first)) else {
@@ -80,7 +80,7 @@ fn shown_pair(report: &PairRun) -> ShownPair<'_> {
 // The report of a driver's run at a width.
 fn report<const W: usize>(alloc: Global, driver: &Driver, steps: u64) -> Result<RunReport, NoMemory>
     requires width { IsWidth W }
-    requires driver { IsDriver driver.now }
+    requires driver { IsRunnableDriver driver.now }
 {
     run::<W>(alloc, &driver.image, &driver.notes, &driver.script, steps)
 }
@@ -102,7 +102,7 @@ fn of_width<const W: usize>(
     width: Width,
 ) -> Result<Vec<Said>, NoMemory>
     requires width { IsWidth W }
-    requires driver { IsDriver driver.now }
+    requires driver { IsRunnableDriver driver.now }
 {
     let alloc = answer.alloc;
     let report = report::<W>(alloc, driver, steps)?;
@@ -113,7 +113,7 @@ fn of_width<const W: usize>(
 
 // What is said of a driver's run at the width that the word after `run` names.
 fn of_named_width(answer: &Answer, steps: u64, driver: &Driver) -> Result<Vec<Said>, NoMemory>
-    requires { IsDriver driver.now }
+    requires { IsRunnableDriver driver.now }
 {
     if answer.word(1) == "32" {
         return of_width::<4>(answer, steps, driver, Width::At32);
@@ -131,7 +131,7 @@ fn of_run(answer: &Answer, steps: u64, folder: &mut MemFolder) -> Result<Vec<Sai
 
 // What is said of a driver's runs at both widths.
 fn of_both_widths(answer: &Answer, steps: u64, driver: &Driver) -> Result<Vec<Said>, NoMemory>
-    requires { IsDriver driver.now }
+    requires { IsRunnableDriver driver.now }
 {
     let alloc = answer.alloc;
     let at4 = report::<4>(alloc, driver, steps)?;
@@ -156,8 +156,8 @@ fn told_of_pair(
     b: &Driver,
     binds: &Binds,
 ) -> Result<Vec<Said>, NoMemory>
-    requires a { IsDriver a.now }
-    requires b { IsDriver b.now }
+    requires a { IsRunnableDriver a.now }
+    requires b { IsRunnableDriver b.now }
     requires agree { AllAgree a.now.notes b.now.notes binds.now }
 {
     let alloc = answer.alloc;
@@ -185,8 +185,8 @@ fn of_drivers(
     b: &Driver,
     folder: &mut MemFolder,
 ) -> Result<Vec<Said>, NoMemory>
-    requires a { IsDriver a.now }
-    requires b { IsDriver b.now }
+    requires a { IsRunnableDriver a.now }
+    requires b { IsRunnableDriver b.now }
 {
     let alloc = answer.alloc;
     let Some(bytes) = answer.bytes_of(7, folder)? else {
@@ -278,7 +278,7 @@ fn add_end<const W: usize>(
     said: &mut Said,
 ) -> Result<(), NoMemory>
     requires width { IsWidth W }
-    requires driver { IsDriver driver.now }
+    requires driver { IsRunnableDriver driver.now }
 {
     let alloc = said.what.alloc;
     let report = report::<W>(alloc, driver, steps)?;
@@ -291,7 +291,7 @@ fn add_end<const W: usize>(
 
 // The spot of a driver's run after so many steps.
 fn spot_after(alloc: Global, driver: &Driver, steps: u64) -> Result<Spot, NoMemory>
-    requires { IsDriver driver.now }
+    requires { IsRunnableDriver driver.now }
 {
     let report = report::<4>(alloc, driver, steps)?;
     Ok(report.spot)
@@ -306,7 +306,7 @@ fn parting_said(alloc: Global, step: u64) -> Said {
 
 // What is said of the two runs of a driver that first differ after so many steps.
 fn of_parting(answer: &Answer, step: u64, driver: &Driver) -> Result<Said, NoMemory>
-    requires { IsDriver driver.now }
+    requires { IsRunnableDriver driver.now }
 {
     let spot = spot_after(answer.alloc, driver, step.saturating_sub(1))?;
     let mut said = parting_said(answer.alloc, step);

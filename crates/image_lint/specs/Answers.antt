@@ -65,8 +65,8 @@ pub record LeavesPart (run : FileReading (Image × Notes)) (before now : Option 
   pub part : AppendsPart (text_of reply.output) before now
 
 -- the exit status: 1 of an answer with a warning, and else that of the outcome
-abbrev pub status_of : Answer → ℕ
-status_of answer = if answer.warned then 1 else exit_status answer.outcome
+abbrev pub lint_status : Answer → ℕ
+lint_status answer = if answer.warned then 1 else exit_status answer.outcome
 
 -- ---- what the steps promise
 

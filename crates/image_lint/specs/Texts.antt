@@ -7,18 +7,18 @@ use Rattle.image_warnings.specs.declared.warning.Warning.{Warning}
 use Rattle.printed_texts.specs.RunTexts.{place_text}
 
 -- a kind by its name
-abbrev pub kind_text : Kind → List ℕ
-kind_text kinds.Status = codes "status"
-kind_text kinds.Popn = codes "popn"
-kind_text kinds.Divide = codes "divide"
-kind_text kinds.Shift = codes "shift"
-kind_text kinds.Compare = codes "compare"
-kind_text kinds.Break = codes "break"
-kind_text kinds.Unwritten = codes "unwritten"
+abbrev pub kind_name : Kind → List ℕ
+kind_name kinds.Status = codes "status"
+kind_name kinds.Popn = codes "popn"
+kind_name kinds.Divide = codes "divide"
+kind_name kinds.Shift = codes "shift"
+kind_name kinds.Compare = codes "compare"
+kind_name kinds.Break = codes "break"
+kind_name kinds.Unwritten = codes "unwritten"
 
 -- the line of a warning
 unfoldable pub warning_line : Warning → List ℕ
-warning_line w = codes "warning " ++ (place_text w.place ++ (codes " " ++ (kind_text w.kind ++ codes "\n")))
+warning_line w = codes "warning " ++ (place_text w.place ++ (codes " " ++ (kind_name w.kind ++ codes "\n")))
 
 -- the lines of warnings
 abbrev pub warning_lines : List Warning → List ℕ

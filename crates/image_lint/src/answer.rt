@@ -7,7 +7,7 @@ ghost use Rattle.cli_base.specs.Readings.{AsksPart, Follows, IfStop};
 ghost use Rattle.cli_base.specs.Words.{word_bytes};
 ghost use Rattle.note_types.specs.Records.{IsNotes};
 ghost use Rattle.pe_image.specs.Images.{IsImage};
-ghost use Rattle.image_lint.specs.Answers.{Answers, AnswersWords, Decides, LeavesPart, TellsLint, status_of, warned_with, warns};
+ghost use Rattle.image_lint.specs.Answers.{Answers, AnswersWords, Decides, LeavesPart, TellsLint, lint_status, warned_with, warns};
 ghost use Rattle.image_lint.specs.Requests.{files_named, request_of, usage_reply};
 ghost use Rattle.width_checker.specs.Typed.{Typed};
 
@@ -34,7 +34,7 @@ pub struct Answer {
 impl Answer {
     /// The exit status: 1 with a warning, and else that of the outcome, from 0 to 9.
     pub fn code(&self) -> u8
-        ensures { result ≡ status_of self.now }
+        ensures { result ≡ lint_status self.now }
     {
         if self.warned { 1 } else { self.outcome.code() }
     }

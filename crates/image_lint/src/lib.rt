@@ -24,7 +24,7 @@
 //! - `read_fault_leaves`: where a read failed, the output is as it was. `no_memory_leaves`: where memory ran out,
 //!   nothing was printed.
 //!
-//! `Answer::code`: the exit status, exactly `status_of`. `kind_text`: the name of a kind.
+//! `Answer::code`: the exit status, exactly `lint_status`. `kind_name`: the name of a kind.
 #![tactic(auto)]
 
 mod answer;
@@ -32,4 +32,4 @@ mod text;
 
 pub use answer::{Answer, lint};
 pub use cli_base::Outcome;
-pub use text::kind_text;
+pub use text::kind_name;

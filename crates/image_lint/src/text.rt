@@ -1,14 +1,14 @@
 //! The lines of the warnings.
 ghost use Rattle.std.specs.Prelude.{◌≡◌, ◌++◌, IfOk, OnOk};
-ghost use Rattle.image_lint.specs.Texts.{kind_text, warning_line, warning_lines};
+ghost use Rattle.image_lint.specs.Texts.{kind_name, warning_line, warning_lines};
 
 use image_warnings::{Kind, Warning};
 use printed_texts::Place;
 use std::alloc::{AllocError, Global};
 
 /// The name of a kind of warning, as it is printed.
-pub fn kind_text(kind: Kind) -> &'static str
-    ensures { result.now ≡ kind_text kind }
+pub fn kind_name(kind: Kind) -> &'static str
+    ensures { result.now ≡ kind_name kind }
 {
     match kind {
         Kind::Status => "status",
@@ -27,7 +27,7 @@ fn append_line(alloc: Global, warning: &Warning, out: &mut Vec<u8>) -> Result<()
     ensures { OnOk result (out.new.items ≡ out.old.items ++ warning_line warning.now) }
 {
     let place = Place(warning.place);
-    let kind = kind_text(warning.kind);
+    let kind = kind_name(warning.kind);
     let line = format!(in alloc; "warning {place} {kind}\n")?;
     out.extend_from_slice(line.as_bytes())?;
     Ok(())

@@ -8,10 +8,10 @@ use Rattle.note_types.specs.declared.notes.FnNote.{FnNote}
 use Rattle.note_types.specs.declared.notes.Notes.{Notes}
 use Rattle.note_types.specs.declared.state.State.{State}
 use Rattle.pe_image.specs.declared.image.Image.{Image}
-use Rattle.state_walk.specs.Standing.{Decodes, HasDecoded}
-use Rattle.image_warnings.specs.Around.{IsAround, IsCut, LoadsStored, around_of, is_cut, is_cut_by}
+use Rattle.state_walk.specs.Standing.{DecodesIfAny, HasDecoded}
+use Rattle.image_warnings.specs.Around.{IsAround, IsCut, LoadsStored, around_of, is_cut_behind, is_cut_by}
 use Rattle.image_warnings.specs.Fields.{has_some, loaded_field}
-use Rattle.image_warnings.specs.Stored.{AreStored, IsStored}
+use Rattle.image_warnings.specs.Stored.{AreStored, IsStoredField}
 use Rattle.image_warnings.specs.Uncut.{UncutAt}
 use Rattle.image_warnings.specs.declared.departure.Around.{Around}
 use Rattle.image_warnings.specs.declared.field.ObjectField.{ObjectField}
@@ -35,17 +35,17 @@ stored_found image notes f s i fields all None e = (λ h. absurd cc, λ l. absur
 stored_found image notes f s i fields all (Some x) e = (
   λ h. record { field = x; loads = e; stored = (all x).0 ((has_contained fields x).0 h) },
   λ l. let same : l.field ≡ x = same_Some l.field x (sym l.loads ∙ e) in
-      (has_contained fields x).1 ((all x).1 (subst (IsStored image notes) same l.stored)),
+      (has_contained fields x).1 ((all x).1 (subst (IsStoredField image notes) same l.stored)),
 )
 
 -- what stands behind an instruction
 pub record StandsBehind (image : Image) (f : FnNote) (next : ℕ) (behind : Option (Insn × ℕ)) : Type 0 where
-  pub decodes : Decodes image f next behind
+  pub decodes : DecodesIfAny image f next behind
   pub whole : HasDecoded image f next behind
 
 -- the test finds whether it cuts
 cut_found : (image : Image) (f : FnNote) (i : Insn) (next : ℕ) (behind : Option (Insn × ℕ)) → StandsBehind image f next behind
-    → IsTrue (is_cut behind i) ↔ IsCut image f i next
+    → IsTrue (is_cut_behind behind i) ↔ IsCut image f i next
 cut_found image f i next None b = (λ h. absurd cc, λ c. absurd (none-some (c.behind, c.after) (b.whole c.behind c.after c.decode)))
 cut_found image f i next (Some p) b = (
   λ h. record { behind = p.0; after = p.1; decode = b.decodes p.0 p.1 refl; cuts = h },

@@ -9,7 +9,7 @@ use Rattle.std.proofs.lemmas.List.Elements.{Contains-append_left, Contains-push,
 use Rattle.std.proofs.lemmas.List.Folds.{list_any_at}
 use Rattle.std.proofs.lemmas.Map.Views.{Contains-from_any}
 use Rattle.std.proofs.lemmas.Option.{none-some, same_Some}
-use Rattle.image_warnings.specs.Fields.{has, is_same, with_field}
+use Rattle.image_warnings.specs.Fields.{is_same, list_with_field, lists_field}
 use Rattle.image_warnings.specs.declared.field.ObjectField.{ObjectField}
 
 abbrev field_of : ℕ → ℤ → ℤ → ObjectField
@@ -29,8 +29,8 @@ itself x =
     (and_from (int_eq x.n x.n) (int_eq x.c x.c) ((Decides-int_eq x.n x.n).1 refl) ((Decides-int_eq x.c x.c).1 refl))
 
 -- the list has exactly its elements
-pub has_contained : (fields : List ObjectField) (x : ObjectField) → (has fields x ≡ true) ↔ Contains fields x
-unfolding has
+pub has_contained : (fields : List ObjectField) (x : ObjectField) → (lists_field fields x ≡ true) ↔ Contains fields x
+unfolding lists_field
 has_contained fields x = (
   λ e. Contains-from_any same_field x fields e,
   λ c. list_any_at (is_same x) fields c.0 x c.1 (subst (λ y. is_same x y ≡ true) (sym c.2) (itself x)),
@@ -38,25 +38,25 @@ has_contained fields x = (
 
 -- with one more, it has what it had and that one
 module _ (fields : List ObjectField) where
-  pub with_old : (o : Option ObjectField) (x : ObjectField) → Contains fields x → Contains (with_field fields o) x
+  pub with_old : (o : Option ObjectField) (x : ObjectField) → Contains fields x → Contains (list_with_field fields o) x
   with_old None x c = c
-  with_old (Some y) x c = still (has fields y)
+  with_old (Some y) x c = still (lists_field fields y)
     where
       still : (b : Bool) → Contains (cond b fields (fields ++ y ∷ [])) x
       still true = c
       still false = Contains-append_left fields (y ∷ []) x c
 
-  pub with_new : (o : Option ObjectField) (x : ObjectField) → o ≡ Some x → Contains (with_field fields o) x
+  pub with_new : (o : Option ObjectField) (x : ObjectField) → o ≡ Some x → Contains (list_with_field fields o) x
   with_new None x e = absurd (none-some x e)
-  with_new (Some y) x e = subst (Contains (with_field fields (Some y))) (same_Some y x e) (there y (has fields y) refl)
+  with_new (Some y) x e = subst (Contains (list_with_field fields (Some y))) (same_Some y x e) (there y (lists_field fields y) refl)
     where
-      there : (y : ObjectField) (b : Bool) → has fields y ≡ b → Contains (cond b fields (fields ++ y ∷ [])) y
+      there : (y : ObjectField) (b : Bool) → lists_field fields y ≡ b → Contains (cond b fields (fields ++ y ∷ [])) y
       there y true h = (has_contained fields y).0 h
       there y false h = Contains-push fields y
 
-  pub with_cases : (o : Option ObjectField) (x : ObjectField) → Contains (with_field fields o) x → Contains fields x ⊎ (o ≡ Some x)
+  pub with_cases : (o : Option ObjectField) (x : ObjectField) → Contains (list_with_field fields o) x → Contains fields x ⊎ (o ≡ Some x)
   with_cases None x c = inl c
-  with_cases (Some y) x c = cases (has fields y) c
+  with_cases (Some y) x c = cases (lists_field fields y) c
     where
       cases : (b : Bool) → Contains (cond b fields (fields ++ y ∷ [])) x → Contains fields x ⊎ (Some y ≡ Some x)
       cases true c = inl c

@@ -9,7 +9,7 @@ use Rattle.note_types.specs.declared.notes.Notes.{Notes}
 use Rattle.pe_image.specs.declared.image.Image.{Image}
 use Rattle.rules_image.specs.Places.{Leads}
 use Rattle.rules_image.proofs.Decoding.{spelled_at}
-use Rattle.state_walk.specs.Standing.{Decodes, GoesOn, HasDecoded, IsWalk, StandsBefore}
+use Rattle.state_walk.specs.Standing.{DecodesIfAny, GoesToNext, HasDecoded, IsWalkedFunction, StandsBefore}
 use Rattle.state_walk.specs.declared.preceding.Before.{Before}
 use Rattle.state_walk.proofs.Standing.{insn_there, meets_state}
 use Rattle.width_checker.specs.Typed.{MeetsRules, Typed}
@@ -17,10 +17,10 @@ use Rattle.width_checker.proofs.Leading.{OnePoint, decode_later, leads_of}
 use Rattle.width_checker.proofs.Points.{one_point}
 use Rattle.width_checker.proofs.Walking.{place_of_comes}
 use Rattle.image_warnings.specs.Around.{around_of}
-use Rattle.image_warnings.specs.Fields.{stored_field, with_field}
+use Rattle.image_warnings.specs.Fields.{list_with_field, stored_field}
 use Rattle.image_warnings.specs.Stored.{AreStored, InsnAt, StoredBefore, StoredTo, with_stored}
 use Rattle.image_warnings.specs.Uncut.{UncutAt}
-use Rattle.image_warnings.specs.Walks.{WarnedBefore, WarnedTo, insn_of, warnings_of}
+use Rattle.image_warnings.specs.Walks.{WarnedBefore, WarnedTo, following_insn, warnings_of}
 use Rattle.image_warnings.specs.Warned.{warnings_at}
 use Rattle.image_warnings.specs.declared.departure.Around.{Around}
 use Rattle.image_warnings.specs.declared.field.ObjectField.{ObjectField}
@@ -33,7 +33,8 @@ if_insn : (o : Option (Insn × ℕ)) → ((i : Insn) (next : ℕ) → o ≡ Some
 if_insn None h = tt
 if_insn (Some p) h = h p.0 p.1 refl
 
-module _ (image : Image) (notes : Notes) (func : ℕ) (f : FnNote) (walk : IsWalk image notes func f) (typed : Typed image notes) (b : Before)
+module _ (image : Image) (notes : Notes) (func : ℕ) (f : FnNote) (walk : IsWalkedFunction image notes func f)
+    (typed : Typed image notes) (b : Before)
     (s : StandsBefore image notes func f b) where
   pub meets : MeetsRules image notes func f b.place
   meets = typed.code func f walk.there b.place (place_of_comes image notes func f b.place b.arrived s.comes)
@@ -64,15 +65,15 @@ module _ (image : Image) (notes : Notes) (func : ℕ) (f : FnNote) (walk : IsWal
   insn_is = insn_there image notes func f b meets s.whole
 
   -- what stands behind it is that of the next place
-  pub behind_found : (next : Option Before) → IfSome next (StandsBefore image notes func f) → GoesOn image notes func f b.place next
-      → StandsBehind image f meets.next (insn_of next)
+  pub behind_found : (next : Option Before) → IfSome next (StandsBefore image notes func f) → GoesToNext image notes func f b.place next
+      → StandsBehind image f meets.next (following_insn next)
   behind_found None stands goes = record {
     decodes = λ i n e. absurd (none-some (i, n) e);
     whole = λ i n d. absurd (let past : f.end ≤ meets.next = goes meets in let later = decode_later image f meets.next n i d in
         let within : n ≤ f.end = d.within in omega arith);
   }
   behind_found (Some c) stands goes = record {
-    decodes = subst (λ p. Decodes image f p c.insn) (goes meets) stands.insn.insn;
+    decodes = subst (λ p. DecodesIfAny image f p c.insn) (goes meets) stands.insn.insn;
     whole = subst (λ p. HasDecoded image f p c.insn) (goes meets) stands.whole.insn;
   }
 
@@ -93,7 +94,7 @@ module _ (image : Image) (notes : Notes) (func : ℕ) (f : FnNote) (walk : IsWal
   pub stored_passed : (fields more : List ObjectField) → StoredTo image notes func f b.place fields
       → more ≡ with_stored fields notes f b.state b.insn → StoredTo image notes func f meets.next more
   stored_passed fields more to e =
-      let same : more ≡ with_field fields (stored_field notes f meets.state meets.insn) =
+      let same : more ≡ list_with_field fields (stored_field notes f meets.state meets.insn) =
       e ∙ (ap (λ o. with_stored fields notes f o b.insn) state_is
       ∙ ap (λ o. with_stored fields notes f (Some meets.state) o) insn_is) in
       subst (StoredTo image notes func f meets.next) (sym same)

@@ -15,14 +15,14 @@ use Rattle.state_walk.specs.Standing.{HasDecoded}
 use Rattle.width_checker.proofs.Deciding.{place_within}
 use Rattle.width_checker.proofs.Leading.{places_before, start_first}
 use Rattle.image_warnings.specs.Spreading.{Extends, IsFollowed, ReachesCalls, ReachesCallsBefore}
-use Rattle.image_warnings.specs.Uncut.{ComesUncut, LeadsTo, calls_native, writes_r7}
+use Rattle.image_warnings.specs.Uncut.{ComesUncut, LeadsWithin, calls_native, writes_r7}
 use Rattle.image_warnings.proofs.SpreadLaws.{still_reached}
 
 -- ---- where an instruction leads
 
 pub led_on_ok : {E : Type 0} (image : Image) (f : FnNote) (next : ℕ) (i : Insn) (xs ys : List ℕ) (r : Result (Unit {0}) E)
     → (falls i ≡ true → next < f.end → Contains xs next) → OnOk r (Extends xs ys)
-    → OnOk r ((q : ℕ) → IsNamedIn image f next i q → Contains ys q) → OnOk r ((q : ℕ) → LeadsTo image f next i q → Contains ys q)
+    → OnOk r ((q : ℕ) → IsNamedIn image f next i q → Contains ys q) → OnOk r ((q : ℕ) → LeadsWithin image f next i q → Contains ys q)
 led_on_ok image f next i xs ys (Ok v) fell more named = λ q l.
     ⊎_elim
     (λ p. subst (Contains ys) (sym p.1) (still_reached xs ys next more (fell p.0 (subst (λ x. x < f.end) p.1 l.within))))
@@ -48,11 +48,11 @@ module _ (image : Image) (f : FnNote) (place next : ℕ) (i : Insn) (xs : List �
       absurd cc
 
   -- the places to which it leads are reached
-  pub followed_led : ((q : ℕ) → LeadsTo image f next i q → Contains xs q) → IsFollowed image f place xs
+  pub followed_led : ((q : ℕ) → LeadsWithin image f next i q → Contains xs q) → IsFollowed image f place xs
   followed_led led q c =
       let there : IsDecoded image f place c.insn c.next = subst (λ p. IsDecoded image f p c.insn c.next) c.is_such.0 c.decode in
       let once = decoded_once image f place c.insn i c.next next there d in
-      led q (subst (λ n. LeadsTo image f n i q) once.1 (subst (λ j. LeadsTo image f c.next j q) once.0 c.leads))
+      led q (subst (λ n. LeadsWithin image f n i q) once.1 (subst (λ j. LeadsWithin image f c.next j q) once.0 c.leads))
 
 -- ---- native calls
 
@@ -64,7 +64,7 @@ calls_none image f xs q c =
 
 pub calls_next : (image : Image) (f : FnNote) (place next : ℕ) (i : Insn) (xs ys : List ℕ) → ReachesCallsBefore image f place xs
     → Extends xs ys → IsPlaceOf image f place → IsDecoded image f place i next
-    → (calls_native i ≡ true → (q : ℕ) → LeadsTo image f next i q → Contains ys q) → ReachesCallsBefore image f next ys
+    → (calls_native i ≡ true → (q : ℕ) → LeadsWithin image f next i q → Contains ys q) → ReachesCallsBefore image f next ys
 calls_next image f place next i xs ys before more reached d led q c =
     let from : IsPlaceOf image f c.last = c.is_such.1.0 in
     ⊎_elim
@@ -80,7 +80,7 @@ calls_next image f place next i xs ys before more reached d led q c =
     let there : IsDecoded image f place c.insn c.next = subst (λ p. IsDecoded image f p c.insn c.next) same c.decode in
     let once = decoded_once image f place c.insn i c.next next there d in
     led (subst (λ j. calls_native j ≡ true) once.0 c.is_such.1.1) q
-    (subst (λ n. LeadsTo image f n i q) once.1 (subst (λ j. LeadsTo image f c.next j q) once.0 c.leads)))
+    (subst (λ n. LeadsWithin image f n i q) once.1 (subst (λ j. LeadsWithin image f c.next j q) once.0 c.leads)))
     (places_before image f reached.0 from.0 place c.last next i reached.1 d from.1 c.is_such.0)
 
 -- at the function's end all are before

@@ -10,7 +10,7 @@ use Rattle.rules_image.specs.Images.{FunctionHolds}
 use Rattle.rules_image.specs.Places.{Leads}
 use Rattle.width_checker.proofs.Deciding.{place_within}
 use Rattle.width_checker.proofs.Leading.{OnePoint, places_before, start_first}
-use Rattle.image_warnings.specs.Fields.{stored_field, with_field}
+use Rattle.image_warnings.specs.Fields.{list_with_field, stored_field}
 use Rattle.image_warnings.specs.Stored.{AreStored, InsnAt, StoredBefore, StoredTo, StoresAt}
 use Rattle.image_warnings.specs.declared.field.ObjectField.{ObjectField}
 use Rattle.image_warnings.proofs.FieldLaws.{with_cases, with_new, with_old}
@@ -27,7 +27,7 @@ module _ (image : Image) (notes : Notes) (one : OnePoint notes) (func : ℕ) (f 
       (subst (λ s. stored_field notes f s h.at.insn ≡ Some x) (one_state image notes func f place one h.at at) h.stores)
 
   pub stored_more : (fields : List ObjectField) → StoredTo image notes func f place fields
-      → StoredTo image notes func f at.next (with_field fields (stored_field notes f at.state at.insn))
+      → StoredTo image notes func f at.next (list_with_field fields (stored_field notes f at.state at.insn))
   stored_more fields to =
       let o = stored_field notes f at.state at.insn in
       record {

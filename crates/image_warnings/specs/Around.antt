@@ -8,9 +8,9 @@ use Rattle.note_types.specs.declared.notes.Notes.{Notes}
 use Rattle.note_types.specs.declared.state.State.{State}
 use Rattle.pe_image.specs.declared.image.Image.{Image}
 use Rattle.rules_image.specs.Images.{IsDecoded}
-use Rattle.image_warnings.specs.Departures.{is_register}
+use Rattle.image_warnings.specs.Departures.{is_register_itself}
 use Rattle.image_warnings.specs.Fields.{has_some, loaded_field}
-use Rattle.image_warnings.specs.Stored.{IsStored}
+use Rattle.image_warnings.specs.Stored.{IsStoredField}
 use Rattle.image_warnings.specs.Uncut.{UncutAt}
 use Rattle.image_warnings.specs.declared.departure.Around.{Around}
 use Rattle.image_warnings.specs.declared.field.ObjectField.{ObjectField}
@@ -19,7 +19,7 @@ use Rattle.image_warnings.specs.declared.field.ObjectField.{ObjectField}
 
 -- the instruction moves the low 32 bits of a register to itself
 abbrev pub cuts : ℕ → Insn → Bool
-cuts r (Move Dword bits left right lidx ridx) = is_register r left && is_register r right
+cuts r (Move Dword bits left right lidx ridx) = is_register_itself r left && is_register_itself r right
 cuts r i = false
 
 -- a move of natural size to a register is cut by the instruction behind it
@@ -35,9 +35,9 @@ pub record IsCut (image : Image) (f : FnNote) (insn : Insn) (next : ℕ) : Type 
   pub cuts : is_cut_by behind insn ≡ true
 
 -- the same of what stands there
-abbrev pub is_cut : Option (Insn × ℕ) → Insn → Bool
-is_cut None insn = false
-is_cut (Some (behind, after)) insn = is_cut_by behind insn
+abbrev pub is_cut_behind : Option (Insn × ℕ) → Insn → Bool
+is_cut_behind None insn = false
+is_cut_behind (Some (behind, after)) insn = is_cut_by behind insn
 
 -- ---- a load of what is stored
 
@@ -45,7 +45,7 @@ is_cut (Some (behind, after)) insn = is_cut_by behind insn
 pub record LoadsStored (image : Image) (notes : Notes) (f : FnNote) (s : State) (insn : Insn) : Type 0 where
   pub field : ObjectField
   pub loads : loaded_field notes f s insn ≡ Some field
-  pub stored : IsStored image notes field
+  pub stored : IsStoredField image notes field
 
 -- ---- what is around
 
@@ -61,5 +61,5 @@ abbrev pub around_of : List ObjectField → Bool → Option (Insn × ℕ) → No
 around_of fields uncut behind notes f s insn = record {
   uncut = uncut;
   stored = has_some fields (loaded_field notes f s insn);
-  cut = is_cut behind insn;
+  cut = is_cut_behind behind insn;
 }

@@ -102,12 +102,12 @@ compares_negative (CompareImm op true left idx long imm) = compares_unsigned op 
 compares_negative i = false
 
 -- the operand is a register itself
-abbrev pub is_register : ℕ → Operand → Bool
-is_register r op = not op.indirect && nat_eq op.reg r
+abbrev pub is_register_itself : ℕ → Operand → Bool
+is_register_itself r op = not op.indirect && nat_eq op.reg r
 
 -- it is R7 itself
 abbrev pub is_r7 : Operand → Bool
-is_r7 op = is_register 7 op
+is_r7 op = is_register_itself 7 op
 
 -- an operation that looks at all bits of operand 2
 abbrev pub takes_all : ArithOp → Bool

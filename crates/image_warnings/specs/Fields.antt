@@ -61,9 +61,9 @@ is_handed_out notes shape = list_any (hands_out shape) notes.signature
 -- ---- the fields that an instruction reaches
 
 -- a natural number lies there
-abbrev pub is_number : Option Place → Bool
-is_number (Some (place.Object cell.N null)) = true
-is_number p = false
+abbrev pub is_natural_cell : Option Place → Bool
+is_natural_cell (Some (place.Object cell.N null)) = true
+is_natural_cell p = false
 
 -- where a pointer and a distance reach, in objects of which shape
 abbrev pub field_past : Ty → Distance → Option ObjectField
@@ -71,12 +71,12 @@ field_past (Ptr s k n c null) d = Some (record { shape = s; n = n +ℤ d.n; c = 
 field_past t d = None
 
 -- the natural field of an object that a register and a distance name
-unfoldable pub field_at : Notes → FnNote → State → ℕ → Distance → Option ObjectField
-field_at notes f s r d = if is_number (place_at notes f s r d) then field_past (type_of s r) d else None
+unfoldable pub named_field : Notes → FnNote → State → ℕ → Distance → Option ObjectField
+named_field notes f s r d = if is_natural_cell (place_at notes f s r d) then field_past (type_of s r) d else None
 
 -- the one that an operand in memory names
 abbrev pub operand_field : Notes → FnNote → State → Operand → Distance → Option ObjectField
-operand_field notes f s op d = if op.indirect then field_at notes f s op.reg d else None
+operand_field notes f s op d = if op.indirect then named_field notes f s op.reg d else None
 
 -- the one that an instruction loads
 abbrev pub loaded_field : Notes → FnNote → State → Insn → Option ObjectField
@@ -103,14 +103,14 @@ abbrev pub is_same : ObjectField → ObjectField → Bool
 is_same x y = nat_eq x.shape y.shape && (int_eq x.n y.n && int_eq x.c y.c)
 
 -- the list has the field
-unfoldable pub has : List ObjectField → ObjectField → Bool
-has fields x = list_any (is_same x) fields
+unfoldable pub lists_field : List ObjectField → ObjectField → Bool
+lists_field fields x = list_any (is_same x) fields
 
 abbrev pub has_some : List ObjectField → Option ObjectField → Bool
 has_some fields None = false
-has_some fields (Some x) = has fields x
+has_some fields (Some x) = lists_field fields x
 
 -- the list with the field, if there is one
-abbrev pub with_field : List ObjectField → Option ObjectField → List ObjectField
-with_field fields None = fields
-with_field fields (Some x) = if has fields x then fields else fields ++ x ∷ []
+abbrev pub list_with_field : List ObjectField → Option ObjectField → List ObjectField
+list_with_field fields None = fields
+list_with_field fields (Some x) = if lists_field fields x then fields else fields ++ x ∷ []

@@ -3,7 +3,7 @@ use Rattle.std.specs.Prelude.{◌≡◌, ◌↔◌, ℕ, suc, ◌+◌, ◌-◌, 
 use Rattle.std.specs.List.{Contains}
 use Rattle.note_types.specs.declared.notes.FnNote.{FnNote}
 use Rattle.pe_image.specs.declared.image.Image.{Image}
-use Rattle.image_warnings.specs.Uncut.{ComesFrom, ComesUncut, IsNativeCall, KeepsR7, UncutAt}
+use Rattle.image_warnings.specs.Uncut.{ComesFromSuch, ComesUncut, IsNativeCallAt, KeepsR7, UncutAt}
 use Rattle.image_warnings.specs.declared.spread.Spread.{Spread}
 
 -- each byte of a function's code has a mark, which says whether R7 may be so at its place
@@ -33,7 +33,7 @@ Extends xs ys = (zs : List ℕ) × (ys ≡ xs ++ zs)
 -- the places to which the native calls before a place lead are reached
 abbrev pub ReachesCallsBefore : Image → FnNote → ℕ → List ℕ → Type 0
 ReachesCallsBefore image f place reached =
-    (q : ℕ) → ComesFrom image f (λ p i. (p < place) × IsNativeCall image f p i) q → Contains reached q
+    (q : ℕ) → ComesFromSuch image f (λ p i. (p < place) × IsNativeCallAt image f p i) q → Contains reached q
 
 -- those to which all native calls lead are
 abbrev pub ReachesCalls : Image → FnNote → List ℕ → Type 0
@@ -41,7 +41,7 @@ ReachesCalls image f reached = (q : ℕ) → ComesUncut image f 0 q → Contains
 
 -- a place is followed: those to which the instruction there leads are reached, if it leaves R7 as it is
 abbrev pub IsFollowed : Image → FnNote → ℕ → List ℕ → Type 0
-IsFollowed image f place reached = (q : ℕ) → ComesFrom image f (KeepsR7 (λ p. p ≡ place)) q → Contains reached q
+IsFollowed image f place reached = (q : ℕ) → ComesFromSuch image f (KeepsR7 (λ p. p ≡ place)) q → Contains reached q
 
 -- so many of the places that are reached are followed
 abbrev pub AreFollowed : Image → FnNote → ℕ → List ℕ → Type 0

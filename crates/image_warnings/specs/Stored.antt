@@ -8,7 +8,7 @@ use Rattle.note_types.specs.declared.state.State.{State}
 use Rattle.pe_image.specs.declared.image.Image.{Image}
 use Rattle.rules_image.specs.Images.{IsDecoded}
 use Rattle.width_checker.specs.StatesAt.{StateAt}
-use Rattle.image_warnings.specs.Fields.{stored_field, with_field}
+use Rattle.image_warnings.specs.Fields.{list_with_field, stored_field}
 use Rattle.image_warnings.specs.declared.field.ObjectField.{ObjectField}
 
 -- what stands at a place of function `func`: an instruction, and the state before it
@@ -25,7 +25,7 @@ pub record StoresAt (image : Image) (notes : Notes) (func : ℕ) (f : FnNote) (p
   pub stores : stored_field notes f at.state at.insn ≡ Some x
 
 -- an instruction of the image stores into a field
-pub record IsStored (image : Image) (notes : Notes) (x : ObjectField) : Type 0 where
+pub record IsStoredField (image : Image) (notes : Notes) (x : ObjectField) : Type 0 where
   pub func : ℕ
   pub f : FnNote
   pub there : slice_get notes.function func ≡ Some f
@@ -34,18 +34,18 @@ pub record IsStored (image : Image) (notes : Notes) (x : ObjectField) : Type 0 w
 
 -- they are the fields into which the image stores
 abbrev pub AreStored : Image → Notes → List ObjectField → Type 0
-AreStored image notes fields = (x : ObjectField) → Contains fields x ↔ IsStored image notes x
+AreStored image notes fields = (x : ObjectField) → Contains fields x ↔ IsStoredField image notes x
 
 -- ---- how far they are gathered
 
 -- the fields, with the one into which what stands at a place stores
 abbrev pub with_stored : List ObjectField → Notes → FnNote → Option State → Option (Insn × ℕ) → List ObjectField
-with_stored fields notes f (Some s) (Some (i, next)) = with_field fields (stored_field notes f s i)
+with_stored fields notes f (Some s) (Some (i, next)) = list_with_field fields (stored_field notes f s i)
 with_stored fields notes f s insn = fields
 
 -- Fields are those into which the functions before one store.
 pub record StoredBefore (image : Image) (notes : Notes) (func : ℕ) (fields : List ObjectField) : Type 0 where
-  pub sound : (x : ObjectField) → Contains fields x → IsStored image notes x
+  pub sound : (x : ObjectField) → Contains fields x → IsStoredField image notes x
   pub whole : (k : ℕ) (f : FnNote) → k < func → slice_get notes.function k ≡ Some f → (place : ℕ) (x : ObjectField)
       → StoresAt image notes k f place x → Contains fields x
 

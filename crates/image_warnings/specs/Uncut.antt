@@ -29,23 +29,23 @@ writes_r7 (insns.PopNatural op extra) = is_r7 op
 writes_r7 i = false
 
 -- an instruction before `next` leads to a place of the function: control falls through to it, or a jump names it
-pub record LeadsTo (image : Image) (f : FnNote) (next : ℕ) (i : Insn) (place : ℕ) : Type 0 where
+pub record LeadsWithin (image : Image) (f : FnNote) (next : ℕ) (i : Insn) (place : ℕ) : Type 0 where
   pub goes : ((falls i ≡ true) × (place ≡ next)) ⊎ (names_place next (reloc_at image next) i ≡ Some (pos place))
   pub first : f.place ≤ place
   pub within : place < f.end
 
 -- such an instruction at such a place leads to a place
-pub record ComesFrom (image : Image) (f : FnNote) (IsSuch : ℕ → Insn → Type 0) (place : ℕ) : Type 0 where
+pub record ComesFromSuch (image : Image) (f : FnNote) (IsSuch : ℕ → Insn → Type 0) (place : ℕ) : Type 0 where
   pub last : ℕ
   pub insn : Insn
   pub next : ℕ
   pub decode : IsDecoded image f last insn next
   pub is_such : IsSuch last insn
-  pub leads : LeadsTo image f next insn place
+  pub leads : LeadsWithin image f next insn place
 
 -- a native call at a place of the function
-abbrev pub IsNativeCall : Image → FnNote → ℕ → Insn → Type 0
-IsNativeCall image f place i = IsPlaceOf image f place × (calls_native i ≡ true)
+abbrev pub IsNativeCallAt : Image → FnNote → ℕ → Insn → Type 0
+IsNativeCallAt image f place i = IsPlaceOf image f place × (calls_native i ≡ true)
 
 -- an instruction at one of these places that leaves R7 as it is
 abbrev pub KeepsR7 : (ℕ → Type 0) → ℕ → Insn → Type 0
@@ -53,8 +53,8 @@ KeepsR7 before place i = before place × (writes_r7 i ≡ false)
 
 -- a path leads to a place from a native call, with so many instructions behind the call, which all leave R7 as it is
 unfoldable pub ComesUncut : Image → FnNote → ℕ → ℕ → Type 0
-ComesUncut image f zero place = ComesFrom image f (IsNativeCall image f) place
-ComesUncut image f (suc n) place = ComesFrom image f (KeepsR7 (ComesUncut image f n)) place
+ComesUncut image f zero place = ComesFromSuch image f (IsNativeCallAt image f) place
+ComesUncut image f (suc n) place = ComesFromSuch image f (KeepsR7 (ComesUncut image f n)) place
 
 -- some path does: R7 may be there as a native call left it
 abbrev pub UncutAt : Image → FnNote → ℕ → Type 0

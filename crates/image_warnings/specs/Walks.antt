@@ -20,9 +20,9 @@ warnings_of fields place notes func f uncut behind (Some s) (Some (i, next)) =
 warnings_of fields place notes func f uncut behind s insn = []
 
 -- the instruction that stands before what comes next, if something does
-abbrev pub insn_of : Option Before → Option (Insn × ℕ)
-insn_of None = None
-insn_of (Some b) = b.insn
+abbrev pub following_insn : Option Before → Option (Insn × ℕ)
+following_insn None = None
+following_insn (Some b) = b.insn
 
 -- Warnings are those of the functions before one.
 pub record WarnedBefore (image : Image) (notes : Notes) (func : ℕ) (ws : List Warning) : Type 0 where

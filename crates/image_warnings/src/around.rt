@@ -2,10 +2,10 @@
 
 ghost use Rattle.std.specs.Prelude.{◌≡◌};
 ghost use Rattle.ebc_insn.specs.Spelling.{WellFormed};
-ghost use Rattle.image_warnings.specs.Around.{around_of, cuts, is_cut, is_cut_by};
-ghost use Rattle.image_warnings.specs.Walks.{insn_of};
+ghost use Rattle.image_warnings.specs.Around.{around_of, cuts, is_cut_behind, is_cut_by};
+ghost use Rattle.image_warnings.specs.Walks.{following_insn};
 
-use crate::departure::{Around, is_register};
+use crate::departure::{Around, is_register_itself};
 use crate::field::{ObjectField, has_some, loaded_field};
 use ebc_insn::{Insn, Size};
 use note_types::State;
@@ -21,7 +21,7 @@ fn cuts(reg: u8, insn: &Insn) -> bool
             left,
             right,
             ..
-        } => is_register(reg, left) && is_register(reg, right),
+        } => is_register_itself(reg, left) && is_register_itself(reg, right),
         _ => false,
     }
 }
@@ -40,8 +40,8 @@ fn is_cut_by(behind: &Insn, insn: &Insn) -> bool
     }
 }
 
-fn is_cut(behind: &Option<(Insn, u32)>, insn: &Insn) -> bool
-    ensures { result ≡ is_cut behind.now insn.now }
+fn is_cut_behind(behind: &Option<(Insn, u32)>, insn: &Insn) -> bool
+    ensures { result ≡ is_cut_behind behind.now insn.now }
 {
     match behind {
         Some((behind, _)) => is_cut_by(behind, insn),
@@ -50,8 +50,8 @@ fn is_cut(behind: &Option<(Insn, u32)>, insn: &Insn) -> bool
 }
 
 /// The instruction that stands at the next place, if one does.
-pub(crate) fn insn_of(next: &Option<Before>) -> Option<(Insn, u32)>
-    ensures { result ≡ insn_of next.now }
+pub(crate) fn following_insn(next: &Option<Before>) -> Option<(Insn, u32)>
+    ensures { result ≡ following_insn next.now }
 {
     match next {
         Some(next) => next.insn,
@@ -79,7 +79,7 @@ impl<'a> Beside<'a> {
         Around {
             uncut: self.uncut,
             stored: has_some(self.fields, &loaded),
-            cut: is_cut(&self.behind, insn),
+            cut: is_cut_behind(&self.behind, insn),
         }
     }
 }

@@ -8,7 +8,7 @@ ghost use Rattle.rules_base.specs.Values.{form_access, operand_value};
 ghost use Rattle.rules_data.specs.Arithmetic.{is_unary};
 ghost use Rattle.image_warnings.specs.Fields.{is_foreign, loaded_field};
 ghost use Rattle.image_warnings.specs.Departures.{breaks, compares_negative, compares_unsigned, departs, divides_signed, divides_smallest};
-ghost use Rattle.image_warnings.specs.Departures.{is_r7, is_register, may_be, may_reach, pops_sum, reads_r7, shifts, shifts_past};
+ghost use Rattle.image_warnings.specs.Departures.{is_r7, is_register_itself, may_be, may_reach, pops_sum, reads_r7, shifts, shifts_past};
 ghost use Rattle.image_warnings.specs.Departures.{takes_all, type_may_be, type_may_reach, units_may_reach};
 
 use crate::field::{is_foreign, loaded_field};
@@ -113,8 +113,8 @@ fn minus_one(wide: bool) -> u64
 }
 
 /// Whether an operand is a register itself.
-pub(crate) fn is_register(reg: u8, op: &Operand) -> bool
-    ensures { result ≡ is_register reg op.now }
+pub(crate) fn is_register_itself(reg: u8, op: &Operand) -> bool
+    ensures { result ≡ is_register_itself reg op.now }
 {
     !op.indirect && op.reg == reg
 }
@@ -123,7 +123,7 @@ pub(crate) fn is_register(reg: u8, op: &Operand) -> bool
 pub(crate) fn is_r7(op: &Operand) -> bool
     ensures { result ≡ is_r7 op.now }
 {
-    is_register(7, op)
+    is_register_itself(7, op)
 }
 
 fn takes_all(op: ArithOp) -> bool

@@ -2,9 +2,9 @@
 
 ghost use Rattle.std.specs.Prelude.{◌≡◌, ◌<◌, ◌+ℤ◌, OnOk};
 ghost use Rattle.ebc_insn.specs.Spelling.{IsOperand, WellFormed};
-ghost use Rattle.image_warnings.specs.Fields.{field_at, field_past, gives, hands_out, has, has_leaver, has_some, is_foreign, is_handed_out};
-ghost use Rattle.image_warnings.specs.Fields.{is_leaver, is_number, is_same, leaves, loaded_field, operand_field, points_to, stored_field};
-ghost use Rattle.image_warnings.specs.Fields.{with_field};
+ghost use Rattle.image_warnings.specs.Fields.{field_past, gives, hands_out, has_leaver, has_some, is_foreign, is_handed_out, is_leaver};
+ghost use Rattle.image_warnings.specs.Fields.{is_natural_cell, is_same, leaves, list_with_field, lists_field, loaded_field, named_field};
+ghost use Rattle.image_warnings.specs.Fields.{operand_field, points_to, stored_field};
 
 use ebc_base::NoMemory;
 use ebc_insn::{Insn, Operand, Size};
@@ -87,8 +87,8 @@ fn is_handed_out(notes: &Notes, shape: u32) -> bool
 // ---- the fields that an instruction reaches
 
 // Whether a natural number lies there.
-fn is_number(place: &Option<Place>) -> bool
-    ensures { result ≡ is_number place.now }
+fn is_natural_cell(place: &Option<Place>) -> bool
+    ensures { result ≡ is_natural_cell place.now }
 {
     match place {
         Some(Place::Object { cell: Cell::N, .. }) => true,
@@ -118,12 +118,12 @@ fn field_past(t: &Ty, d: Distance) -> Option<ObjectField>
 }
 
 // The natural field of an object that a register and a distance name.
-#[tactic(auto, unfolding(crate::specs::Fields::field_at))]
-fn field_at(notes: &Notes, f: &FnNote, s: &State, reg: u8, d: Distance) -> Option<ObjectField>
+#[tactic(auto, unfolding(crate::specs::Fields::named_field))]
+fn named_field(notes: &Notes, f: &FnNote, s: &State, reg: u8, d: Distance) -> Option<ObjectField>
     requires { reg < 8 }
-    ensures { result ≡ field_at notes.now f.now s.now reg d }
+    ensures { result ≡ named_field notes.now f.now s.now reg d }
 {
-    if is_number(&place_at(notes, f, s, reg, d)) {
+    if is_natural_cell(&place_at(notes, f, s, reg, d)) {
         field_past(&s.regs[reg as usize], d)
     } else {
         None
@@ -142,7 +142,7 @@ fn operand_field(
     ensures { result ≡ operand_field notes.now f.now s.now op.now d }
 {
     if op.indirect {
-        field_at(notes, f, s, op.reg, d)
+        named_field(notes, f, s, op.reg, d)
     } else {
         None
     }
@@ -221,9 +221,9 @@ fn is_same(x: &ObjectField, y: &ObjectField) -> bool
     x.shape == y.shape && x.n == y.n && x.c == y.c
 }
 
-#[tactic(auto, unfolding(crate::specs::Fields::has))]
-fn has(fields: &[ObjectField], x: &ObjectField) -> bool
-    ensures { result ≡ has fields.now x.now }
+#[tactic(auto, unfolding(crate::specs::Fields::lists_field))]
+fn lists_field(fields: &[ObjectField], x: &ObjectField) -> bool
+    ensures { result ≡ lists_field fields.now x.now }
 {
     fields.iter().any(|y| is_same(x, y))
 }
@@ -233,7 +233,7 @@ pub(crate) fn has_some(fields: &[ObjectField], field: &Option<ObjectField>) -> b
     ensures { result ≡ has_some fields.now field.now }
 {
     match field {
-        Some(x) => has(fields, x),
+        Some(x) => lists_field(fields, x),
         None => false,
     }
 }
@@ -243,10 +243,10 @@ pub(crate) fn add_field(
     field: &Option<ObjectField>,
     out: &mut Vec<ObjectField>,
 ) -> Result<(), NoMemory>
-    ensures { OnOk result (out.new.items ≡ with_field out.old.items field.now) }
+    ensures { OnOk result (out.new.items ≡ list_with_field out.old.items field.now) }
 {
     if let Some(x) = field {
-        if !has(out.as_slice(), x) {
+        if !lists_field(out.as_slice(), x) {
             out.push(*x)?;
         }
     }

@@ -6,10 +6,10 @@ ghost use Rattle.ebc_insn.specs.declared.Insn.{Insn};
 ghost use Rattle.note_infer.specs.Finding.{IsNamedIn};
 ghost use Rattle.rules_image.specs.Images.{IsDecoded, falls};
 ghost use Rattle.rules_image.specs.Tables.{IsCodeOf};
-ghost use Rattle.state_walk.specs.Standing.{IsWalk};
+ghost use Rattle.state_walk.specs.Standing.{IsWalkedFunction};
 ghost use Rattle.width_checker.specs.Typed.{Typed};
 ghost use Rattle.image_warnings.specs.Spreading.{AreUncut, Extends, IsFollowed, IsSpread, ReachesCalls};
-ghost use Rattle.image_warnings.specs.Uncut.{LeadsTo, UncutAt};
+ghost use Rattle.image_warnings.specs.Uncut.{LeadsWithin, UncutAt};
 
 use crate::uncut::{calls_native, falls, jump_in, writes_r7};
 use ebc_base::NoMemory;
@@ -49,7 +49,7 @@ impl Spread {
     fn fall(&mut self, walk: &Walk, next: u32, insn: &Insn) -> Result<(), NoMemory>
         requires spread { IsSpread walk.now.image.now walk.now.f.now self.now }
         requires first { walk.now.f.now.place ≤ next }
-        requires uncut { (q : ℕ) → LeadsTo walk.now.image.now walk.now.f.now next insn.now q
+        requires uncut { (q : ℕ) → LeadsWithin walk.now.image.now walk.now.f.now next insn.now q
             → UncutAt walk.now.image.now walk.now.f.now q }
         ensures spread { OnOk result (IsSpread walk.now.image.now walk.now.f.now self.new) }
         ensures more { OnOk result (Extends self.old.reached.items self.new.reached.items) }
@@ -64,9 +64,9 @@ impl Spread {
 
     // Reaches the place to which a jump goes.
     fn jump(&mut self, walk: &Walk, next: u32, insn: &Insn) -> Result<(), NoMemory>
-        requires walk { IsWalk walk.now.image.now walk.now.notes.now walk.now.func walk.now.f.now }
+        requires walk { IsWalkedFunction walk.now.image.now walk.now.notes.now walk.now.func walk.now.f.now }
         requires spread { IsSpread walk.now.image.now walk.now.f.now self.now }
-        requires uncut { (q : ℕ) → LeadsTo walk.now.image.now walk.now.f.now next insn.now q
+        requires uncut { (q : ℕ) → LeadsWithin walk.now.image.now walk.now.f.now next insn.now q
             → UncutAt walk.now.image.now walk.now.f.now q }
         ensures spread { OnOk result (IsSpread walk.now.image.now walk.now.f.now self.new) }
         ensures more { OnOk result (Extends self.old.reached.items self.new.reached.items) }
@@ -81,14 +81,14 @@ impl Spread {
 
     // Reaches the places to which an instruction before `next` leads.
     fn follow(&mut self, walk: &Walk, next: u32, insn: &Insn) -> Result<(), NoMemory>
-        requires walk { IsWalk walk.now.image.now walk.now.notes.now walk.now.func walk.now.f.now }
+        requires walk { IsWalkedFunction walk.now.image.now walk.now.notes.now walk.now.func walk.now.f.now }
         requires spread { IsSpread walk.now.image.now walk.now.f.now self.now }
         requires first { walk.now.f.now.place ≤ next }
-        requires uncut { (q : ℕ) → LeadsTo walk.now.image.now walk.now.f.now next insn.now q
+        requires uncut { (q : ℕ) → LeadsWithin walk.now.image.now walk.now.f.now next insn.now q
             → UncutAt walk.now.image.now walk.now.f.now q }
         ensures spread { OnOk result (IsSpread walk.now.image.now walk.now.f.now self.new) }
         ensures more { OnOk result (Extends self.old.reached.items self.new.reached.items) }
-        ensures reached { OnOk result ((q : ℕ) → LeadsTo walk.now.image.now walk.now.f.now next insn.now q
+        ensures reached { OnOk result ((q : ℕ) → LeadsWithin walk.now.image.now walk.now.f.now next insn.now q
             → Contains self.new.reached.items q) }
     {
         self.fall(walk, next, insn)?;
@@ -97,7 +97,7 @@ impl Spread {
 
     // Reaches the places to which the function's native calls lead.
     fn begin(&mut self, walk: &Walk, code: &[u8]) -> Result<(), NoMemory>
-        requires walk { IsWalk walk.now.image.now walk.now.notes.now walk.now.func walk.now.f.now }
+        requires walk { IsWalkedFunction walk.now.image.now walk.now.notes.now walk.now.func walk.now.f.now }
         requires typed { Typed walk.now.image.now walk.now.notes.now }
         requires code { IsCodeOf walk.now.image.now walk.now.f.now code.now }
         requires spread { IsSpread walk.now.image.now walk.now.f.now self.now }
@@ -119,7 +119,7 @@ impl Spread {
 
     // Follows a place that is reached: reaches those to which the instruction there leads, unless it writes R7.
     fn follow_at(&mut self, walk: &Walk, code: &[u8], place: u32) -> Result<(), NoMemory>
-        requires walk { IsWalk walk.now.image.now walk.now.notes.now walk.now.func walk.now.f.now }
+        requires walk { IsWalkedFunction walk.now.image.now walk.now.notes.now walk.now.func walk.now.f.now }
         requires code { IsCodeOf walk.now.image.now walk.now.f.now code.now }
         requires spread { IsSpread walk.now.image.now walk.now.f.now self.now }
         requires first { walk.now.f.now.place ≤ place }
@@ -140,7 +140,7 @@ impl Spread {
 
     // Follows all places that are reached, those too that are reached meanwhile.
     fn finish(&mut self, walk: &Walk, code: &[u8]) -> Result<(), NoMemory>
-        requires walk { IsWalk walk.now.image.now walk.now.notes.now walk.now.func walk.now.f.now }
+        requires walk { IsWalkedFunction walk.now.image.now walk.now.notes.now walk.now.func walk.now.f.now }
         requires code { IsCodeOf walk.now.image.now walk.now.f.now code.now }
         requires spread { IsSpread walk.now.image.now walk.now.f.now self.now }
         requires calls { ReachesCalls walk.now.image.now walk.now.f.now self.now.reached.items }
@@ -163,7 +163,7 @@ impl Spread {
 ///
 /// There is no memory for them.
 pub(crate) fn uncut_places(alloc: Global, walk: &Walk) -> Result<Vec<bool>, NoMemory>
-    requires walk { IsWalk walk.now.image.now walk.now.notes.now walk.now.func walk.now.f.now }
+    requires walk { IsWalkedFunction walk.now.image.now walk.now.notes.now walk.now.func walk.now.f.now }
     requires typed { Typed walk.now.image.now walk.now.notes.now }
     ensures { IfOk result (λ marks. AreUncut walk.now.image.now walk.now.f.now marks.items) }
 {

@@ -4,7 +4,7 @@ ghost use Rattle.std.specs.Prelude.{◌≡◌, ◌+◌, IfOk, IfSome, OnOk, leng
 ghost use Rattle.ebc_insn.specs.Spelling.{WellFormed};
 ghost use Rattle.note_types.specs.Records.{IsNotes};
 ghost use Rattle.pe_image.specs.Images.{IsImage};
-ghost use Rattle.state_walk.specs.Standing.{IsWalk};
+ghost use Rattle.state_walk.specs.Standing.{IsWalkedFunction};
 ghost use Rattle.width_checker.specs.Typed.{Typed};
 ghost use Rattle.image_warnings.specs.Stored.{AreStored, StoredBefore, with_stored};
 
@@ -31,7 +31,7 @@ fn add_of(walk: &Walk, b: &Before, out: &mut Vec<ObjectField>) -> Result<(), NoM
 
 // Appends the fields into which a function stores.
 fn add_function(walk: &Walk, out: &mut Vec<ObjectField>) -> Result<(), NoMemory>
-    requires walk { IsWalk walk.now.image.now walk.now.notes.now walk.now.func walk.now.f.now }
+    requires walk { IsWalkedFunction walk.now.image.now walk.now.notes.now walk.now.func walk.now.f.now }
     requires typed { Typed walk.now.image.now walk.now.notes.now }
     requires before { StoredBefore walk.now.image.now walk.now.notes.now walk.now.func out.old.items }
     ensures { OnOk result (StoredBefore walk.now.image.now walk.now.notes.now (walk.now.func + 1) out.new.items) }

@@ -3,7 +3,7 @@
 ghost use Rattle.std.specs.Prelude.{◌≡◌, ℕ, IfNone, IfSome};
 ghost use Rattle.note_infer.specs.Finding.{IsNamedIn};
 ghost use Rattle.rules_image.specs.Images.{falls};
-ghost use Rattle.state_walk.specs.Standing.{IsWalk};
+ghost use Rattle.state_walk.specs.Standing.{IsWalkedFunction};
 ghost use Rattle.image_warnings.specs.Uncut.{calls_native, writes_r7};
 
 use crate::departure::is_r7;
@@ -56,7 +56,7 @@ pub(crate) fn writes_r7(insn: &Insn) -> bool
 
 /// The place of a walk's function that an instruction before `next` names as the target of a jump, where it does.
 pub(crate) fn jump_in(walk: &Walk, next: u32, insn: &Insn) -> Option<u32>
-    requires { IsWalk walk.now.image.now walk.now.notes.now walk.now.func walk.now.f.now }
+    requires { IsWalkedFunction walk.now.image.now walk.now.notes.now walk.now.func walk.now.f.now }
     ensures some { IfSome result (IsNamedIn walk.now.image.now walk.now.f.now next insn.now) }
     ensures none { IfNone result ((p : ℕ) → IsNamedIn walk.now.image.now walk.now.f.now next insn.now p → ⊥) }
 {

@@ -4,14 +4,14 @@ ghost use Rattle.std.specs.Prelude.{◌≡◌, ◌+◌, ◌++◌, ◌≤◌, ◌
 ghost use Rattle.ebc_insn.specs.Spelling.{WellFormed};
 ghost use Rattle.note_types.specs.Records.{IsNotes};
 ghost use Rattle.pe_image.specs.Images.{IsImage};
-ghost use Rattle.state_walk.specs.Standing.{IsWalk};
+ghost use Rattle.state_walk.specs.Standing.{IsWalkedFunction};
 ghost use Rattle.width_checker.specs.Typed.{Typed};
 ghost use Rattle.image_warnings.specs.Departures.{departs};
 ghost use Rattle.image_warnings.specs.Stored.{AreStored};
 ghost use Rattle.image_warnings.specs.Walks.{WarnedBefore, warnings_of};
 ghost use Rattle.image_warnings.specs.Warned.{AreWarnings, due, warnings_at};
 
-use crate::around::{Beside, insn_of};
+use crate::around::{Beside, following_insn};
 use crate::departure::Scene;
 use crate::field::ObjectField;
 use crate::spread::{is_uncut, uncut_places};
@@ -86,7 +86,7 @@ fn append_function(
     fields: &[ObjectField],
     out: &mut Vec<Warning>,
 ) -> Result<(), NoMemory>
-    requires walk { IsWalk walk.now.image.now walk.now.notes.now walk.now.func walk.now.f.now }
+    requires walk { IsWalkedFunction walk.now.image.now walk.now.notes.now walk.now.func walk.now.f.now }
     requires typed { Typed walk.now.image.now walk.now.notes.now }
     requires fields { AreStored walk.now.image.now walk.now.notes.now fields.now }
     requires before { WarnedBefore walk.now.image.now walk.now.notes.now walk.now.func out.old.items }
@@ -99,7 +99,7 @@ fn append_function(
         let beside = Beside {
             fields,
             uncut: is_uncut(walk, uncut.as_slice(), b.place),
-            behind: insn_of(&next),
+            behind: following_insn(&next),
         };
         append_of(walk, &b, &beside, out)?;
         match next {

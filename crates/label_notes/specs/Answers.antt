@@ -8,7 +8,7 @@ use Rattle.label_places.specs.Labels.{labels_of}
 use Rattle.label_places.specs.Sought.{place_by}
 use Rattle.label_places.specs.declared.label.Label.{Label}
 use Rattle.note_completion.specs.Causes.{FaultHasCause, LargeHasCause, RefusedHasCause}
-use Rattle.note_completion.specs.Completions.{Completes, TellsFirst, label_faults}
+use Rattle.note_completion.specs.Completions.{Completes, TellsFirstFlaw, label_faults}
 use Rattle.note_completion.specs.declared.completion.Completion.{Completion}
 use Rattle.note_completion.specs.declared.completion.Completion.TheVariants as completions
 use Rattle.pe_image.specs.Images.{IsImage}
@@ -43,7 +43,7 @@ pub record TellsNotes (objects : List (List ℕ)) (labels : List Label) (image :
   pub completion : Completion
   pub more : List ℕ
   pub whole : Completes image (place_by objects labels) text completion
-  pub first : TellsFirst (label_faults objects labels text) completion
+  pub first : TellsFirstFlaw (label_faults objects labels text) completion
   pub refused : RefusedHasCause image (place_by objects labels) text completion
   pub large : LargeHasCause image (place_by objects labels) text completion
   pub faulty : FaultHasCause image (place_by objects labels) (label_faults objects labels text) text completion

@@ -9,8 +9,8 @@ use Rattle.label_places.specs.declared.label.Label.{Label}
 use Rattle.printed_texts.specs.RunTexts.{place_text}
 
 -- where a label stands
-abbrev pub place_of : Label → ℕ
-place_of l = l.position.place
+abbrev pub label_place : Label → ℕ
+label_place l = l.position.place
 
 -- whether a label has this name
 abbrev pub has_name : List ℕ → Label → Bool
@@ -30,18 +30,18 @@ name_in (Some object) name = object ++ (codes ":" ++ name)
 name_in None name = name
 
 -- a label as notes name it: by its object too, where its name is one of these
-unfoldable pub label_text : List (List ℕ) → List (List ℕ) → Label → List ℕ
-label_text objects shared l = if is_named l.name shared then name_in (slice_get objects l.position.object) l.name else l.name
+unfoldable pub noted_label_text : List (List ℕ) → List (List ℕ) → Label → List ℕ
+noted_label_text objects shared l = if is_named l.name shared then name_in (slice_get objects l.position.object) l.name else l.name
 
 -- the line of a label
 unfoldable pub label_line : List (List ℕ) → List (List ℕ) → Label → List ℕ
-label_line objects shared l = place_text (place_of l) ++ (codes " " ++ (label_text objects shared l ++ codes "\n"))
+label_line objects shared l = place_text (label_place l) ++ (codes " " ++ (noted_label_text objects shared l ++ codes "\n"))
 
 -- Labels are others in the order of their places; those at one place stand as they did.
 pub record AreInOrder (labels order : List Label) : Type 0 where
   pub same : IsPermutation labels order
-  pub ascend : IsSortedByKey place_of nat_cmp order
-  pub stable : IsStableByKey place_of nat_cmp labels order
+  pub ascend : IsSortedByKey label_place nat_cmp order
+  pub stable : IsStableByKey label_place nat_cmp labels order
 
 -- A text is the lines of labels of objects whose files have these names, in the order of their places.
 pub record IsMap (objects : List (List ℕ)) (labels : List Label) (text : List ℕ) : Type 0 where

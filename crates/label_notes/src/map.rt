@@ -1,7 +1,7 @@
 //! The labels by their places.
 ghost use Rattle.std.specs.Prelude.{◌≡◌, ◌++◌, IfOk, OnOk, option_map, string_bytes};
 ghost use Rattle.std.specs.List.{flat_map};
-ghost use Rattle.label_notes.specs.Maps.{AreInOrder, IsMap, label_line, label_text, name_in};
+ghost use Rattle.label_notes.specs.Maps.{AreInOrder, IsMap, label_line, name_in, noted_label_text};
 
 use crate::shared::shared_names;
 use ebc_base::{Name, NameTable, NoMemory};
@@ -23,14 +23,14 @@ fn name_in(alloc: Global, object: Option<&Name>, name: &str) -> Result<String, A
 }
 
 /// A label as notes name it, of objects whose files have these names: by its object too, where its name is one of `shared`.
-#[tactic(auto, unfolding(crate::specs::Maps::label_text))]
-pub(crate) fn label_text(
+#[tactic(auto, unfolding(crate::specs::Maps::noted_label_text))]
+pub(crate) fn noted_label_text(
     alloc: Global,
     objects: &[Name],
     shared: &NameTable,
     label: &Label,
 ) -> Result<String, AllocError>
-    ensures { IfOk result (λ text. string_bytes text ≡ label_text objects.now shared.now label.now) }
+    ensures { IfOk result (λ text. string_bytes text ≡ noted_label_text objects.now shared.now label.now) }
 {
     if shared.has(&label.name) {
         name_in(
@@ -55,7 +55,7 @@ fn append_line(
     ensures { OnOk result (out.new.items ≡ out.old.items ++ label_line objects.now shared.now label.now) }
 {
     let place = Place(label.position.place);
-    let name = label_text(alloc, objects, shared, label)?;
+    let name = noted_label_text(alloc, objects, shared, label)?;
     let line = format!(in alloc; "{place} {name}\n")?;
     out.extend_from_slice(line.as_bytes())?;
     Ok(())

@@ -1,6 +1,6 @@
 //! The label before a place.
 
-use crate::map::label_text;
+use crate::map::noted_label_text;
 use crate::shared::shared_names;
 use ebc_base::{Name, NoMemory};
 use label_places::Label;
@@ -30,7 +30,7 @@ pub(crate) fn near_line(
         return Ok(String::new(alloc));
     };
     let shared = shared_names(alloc, labels)?;
-    let name = label_text(alloc, objects, &shared, label)?;
+    let name = noted_label_text(alloc, objects, &shared, label)?;
     let more = place.saturating_sub(label.position.place);
     if more == 0 {
         Ok(format!(in alloc; "at {name}\n")?)

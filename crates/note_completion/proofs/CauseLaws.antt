@@ -5,7 +5,7 @@ use Rattle.note_filling.specs.Causes.{HasCause, HasFormFault, IsTooDeep}
 use Rattle.note_filling.specs.Kept.{IsTextKept}
 use Rattle.note_filling.specs.Originals.{AreOrders}
 use Rattle.note_filling.specs.Rows.{text_labels}
-use Rattle.note_filling.specs.Views.{labels_in, names_in, place_in as filled_place}
+use Rattle.note_filling.specs.Views.{context_labels, context_names, context_place}
 use Rattle.note_filling.specs.declared.context.Context.{Context}
 use Rattle.note_filling.specs.declared.end.FillEnd.{FillEnd}
 use Rattle.note_filling.specs.declared.end.FillEnd.TheVariants as fills
@@ -22,11 +22,12 @@ use Rattle.pe_image.specs.declared.image.Image.{Image}
 use Rattle.toml.specs.Data.{Data, Members}
 use Rattle.toml.specs.View.{table_view}
 use Rattle.type_notes.specs.Notes.{notes_of}
-use Rattle.note_completion.specs.Causes.{FailsUnder, FaultHasCause, HasFault, IsArranged, IsDraft, IsFilled, LargeHasCause, RefusedHasCause}
-use Rattle.note_completion.specs.Causes.{by_calls, by_date, by_depth, by_form, by_leaders, by_length, by_notes}
+use Rattle.note_completion.specs.Causes.{FailsUnder, FaultHasCause, HasFault, IsArrangedText, IsFilledText, IsNotesDraft, LargeHasCause}
+use Rattle.note_completion.specs.Causes.{RefusedHasCause, by_calls, by_date, by_depth, by_form, by_leaders, by_length, by_notes}
 use Rattle.note_completion.specs.Causes.{original_fault, without_label}
 use Rattle.note_completion.specs.Halts.{EndsByRule, EndsChecked, EndsDepths, EndsPrinting, EndsRead, EndsUnder, IsCaused, IsDrafted}
-use Rattle.note_completion.specs.Halts.{IsPrintedOf, IsRefusal, IsToldAs, first_fault, of_fill, of_notes, place_in, told}
+use Rattle.note_completion.specs.Halts.{IsPrintedOf, IsRefusal, IsToldAs, first_label_fault, halt_completion, halt_of_fill, halt_of_notes}
+use Rattle.note_completion.specs.Halts.{task_place}
 use Rattle.note_completion.specs.declared.filling.Draft.{Draft}
 use Rattle.note_completion.specs.declared.halt.Halt.{Halt}
 use Rattle.note_completion.specs.declared.halt.Halt.TheVariants as halts
@@ -34,34 +35,35 @@ use Rattle.note_completion.specs.declared.task.Task.{Task}
 use Rattle.note_completion.proofs.HaltLaws.{faults_over, faults_unread}
 
 -- a text that isn't TOML
-pub caused_unread : (t : Task) (end : NotesEnd) → Fails end (document t.text.now) → IsCaused t (of_notes end)
+pub caused_unread : (t : Task) (end : NotesEnd) → Fails end (document t.text.now) → IsCaused t (halt_of_notes end)
 caused_unread t notes.NoMemory fails = tt
 caused_unread t (notes.Fault f) fails = inl (faults_unread _ _ t.text.now f fails)
 
 -- a text that isn't filled, or whose forms aren't those of notes
-caused_by_fill : (t : Task) (read : Result (Unit {0}) Flaw) (cause : TomlFault → Type 0) (end : FillEnd) → first_fault t ≡ read
-    → ((flaw : Flaw) → flaw.label ≡ None → cause flaw.fault → HasFault t.linked.image.now (place_in t) t.text.now flaw)
-    → HasCause read cause end → IsCaused t (of_fill end)
+caused_by_fill : (t : Task) (read : Result (Unit {0}) Flaw) (cause : TomlFault → Type 0) (end : FillEnd) → first_label_fault t ≡ read
+    → ((flaw : Flaw) → flaw.label ≡ None → cause flaw.fault → HasFault t.linked.image.now (task_place t) t.text.now flaw)
+    → HasCause read cause end → IsCaused t (halt_of_fill end)
 caused_by_fill t read cause fills.NoMemory same has caused = tt
 caused_by_fill t read cause (fills.Flaw f) same has (inl label) = inl (same ∙ label)
 caused_by_fill t read cause (fills.Flaw f) same has (inr other) = inr (has f other.0 other.1)
 
 pub caused_unfilled : (t : Task) (context : Context) (points sites : List Data) (old : Members) (end : FillEnd)
     → context.labels ≡ t.linked.labels → context.names.now ≡ t.linked.plan.now.objects → document t.text.now ≡ Ok old
-    → HasCause (text_labels (names_in context) (labels_in context) old) (IsTooDeep (filled_place context) points sites old) end
-    → IsCaused t (of_fill end)
+    → HasCause (text_labels (context_names context) (context_labels context) old) (IsTooDeep (context_place context) points sites old) end
+    → IsCaused t (halt_of_fill end)
 caused_unfilled t context points sites old end labels names read caused =
-    caused_by_fill t (text_labels (names_in context) (labels_in context) old) (IsTooDeep (filled_place context) points sites old) end
+    caused_by_fill t (text_labels (context_names context) (context_labels context) old)
+    (IsTooDeep (context_place context) points sites old) end
     (faults_over t context old labels names read)
     (λ flaw none deep. by_depth points sites old read (rw (← labels, ← names) deep) none)
     caused
 
 pub caused_unformed : (t : Task) (context : Context) (old : Members) (end : FillEnd) → context.labels ≡ t.linked.labels
     → context.names.now ≡ t.linked.plan.now.objects → document t.text.now ≡ Ok old
-    → HasCause (text_labels (names_in context) (labels_in context) old) (HasFormFault (filled_place context) old) end
-    → IsCaused t (of_fill end)
+    → HasCause (text_labels (context_names context) (context_labels context) old) (HasFormFault (context_place context) old) end
+    → IsCaused t (halt_of_fill end)
 caused_unformed t context old end labels names read caused =
-    caused_by_fill t (text_labels (names_in context) (labels_in context) old) (HasFormFault (filled_place context) old) end
+    caused_by_fill t (text_labels (context_names context) (context_labels context) old) (HasFormFault (context_place context) old) end
     (faults_over t context old labels names read)
     (λ flaw none fault. by_form old read (rw (← labels, ← names) fault) none)
     caused
@@ -69,9 +71,9 @@ caused_unformed t context old end labels names read caused =
 -- a text that is filled over the labels of a task
 pub arranged_over : (t : Task) (context : Context) (points sites : List Data) (function_order point_order site_order : List ℕ)
     (old new : Members) → context.labels ≡ t.linked.labels → context.names.now ≡ t.linked.plan.now.objects → document t.text.now ≡ Ok old
-    → IsTextKept (filled_place context) points sites old new
-    → AreOrders (filled_place context) points sites function_order point_order site_order old new
-    → IsArranged (place_in t) t.text.now points sites function_order point_order site_order new
+    → IsTextKept (context_place context) points sites old new
+    → AreOrders (context_place context) points sites function_order point_order site_order old new
+    → IsArrangedText (task_place t) t.text.now points sites function_order point_order site_order new
 arranged_over t context points sites function_order point_order site_order old new labels names read kept orders = record {
   filled = record { old = old; read = read; kept = rw (← labels, ← names) kept };
   orders = rw (← labels, ← names) orders;
@@ -79,7 +81,7 @@ arranged_over t context points sites function_order point_order site_order old n
 
 -- the text of a filled table
 pub printed_of : (t : Task) (filled : Filled) (points sites : List Data) (printed : List ℕ)
-    → IsArranged (place_in t) t.text.now points sites filled.functions.items filled.points.items filled.sites.items
+    → IsArrangedText (task_place t) t.text.now points sites filled.functions.items filled.points.items filled.sites.items
     (table_view filled.table)
     → document printed ≡ Ok (table_view filled.table) → IsPrintedOf t filled printed
 printed_of t filled points sites printed arranged shown =
@@ -87,7 +89,7 @@ printed_of t filled points sites printed arranged shown =
 
 -- a table that isn't printed
 pub caused_printing : (t : Task) (points sites : List Data) (new : Members) (halt : Halt)
-    → IsFilled (place_in t) t.text.now points sites new → EndsPrinting new halt → IsCaused t halt
+    → IsFilledText (task_place t) t.text.now points sites new → EndsPrinting new halt → IsCaused t halt
 caused_printing t points sites new halts.NoMemory filled ends = tt
 caused_printing t points sites new (halts.Fault flaw) filled ends = inr (by_date points sites new filled ends.0 ends.1)
 caused_printing t points sites new (halts.Refused at rule state) filled ends = absurd ends
@@ -181,20 +183,21 @@ caused_points t d (Err halts.Large) is ends = by_leaders d.filled.functions.item
 
 -- what is told of an end has its cause
 pub told_refused : (t : Task) (halt : Halt) → IsCaused t halt
-    → IfOk (told halt) (RefusedHasCause t.linked.image.now (place_in t) t.text.now)
+    → IfOk (halt_completion halt) (RefusedHasCause t.linked.image.now (task_place t) t.text.now)
 told_refused t halts.NoMemory caused = tt
 told_refused t (halts.Fault flaw) caused = tt
 told_refused t (halts.Refused at rule state) caused = caused
 told_refused t halts.Large caused = tt
 
-pub told_large : (t : Task) (halt : Halt) → IsCaused t halt → IfOk (told halt) (LargeHasCause t.linked.image.now (place_in t) t.text.now)
+pub told_large : (t : Task) (halt : Halt) → IsCaused t halt
+    → IfOk (halt_completion halt) (LargeHasCause t.linked.image.now (task_place t) t.text.now)
 told_large t halts.NoMemory caused = tt
 told_large t (halts.Fault flaw) caused = tt
 told_large t (halts.Refused at rule state) caused = tt
 told_large t halts.Large caused = caused
 
 pub told_faulty : (t : Task) (halt : Halt) → IsCaused t halt
-    → IfOk (told halt) (FaultHasCause t.linked.image.now (place_in t) (first_fault t) t.text.now)
+    → IfOk (halt_completion halt) (FaultHasCause t.linked.image.now (task_place t) (first_label_fault t) t.text.now)
 told_faulty t halts.NoMemory caused = tt
 told_faulty t (halts.Fault flaw) caused = caused
 told_faulty t (halts.Refused at rule state) caused = tt

@@ -31,33 +31,33 @@ use Rattle.note_completion.specs.declared.completion.Completion.TheVariants as c
 -- ---- drafts
 
 -- A text is filled with more points and sites: a table has all that it says.
-pub record IsFilled (place : List ℕ → Option ℕ) (text : List ℕ) (points sites : List Data) (new : Members) : Type 0 where
+pub record IsFilledText (place : List ℕ → Option ℕ) (text : List ℕ) (points sites : List Data) (new : Members) : Type 0 where
   pub old : Members
   pub read : document text ≡ Ok old
   pub kept : IsTextKept place points sites old new
 
 -- The same, where its functions, points and sites had these numbers.
-pub record IsArranged (place : List ℕ → Option ℕ) (text : List ℕ) (points sites : List Data)
+pub record IsArrangedText (place : List ℕ → Option ℕ) (text : List ℕ) (points sites : List Data)
     (function_order point_order site_order : List ℕ) (new : Members) : Type 0 where
-  pub filled : IsFilled place text points sites new
+  pub filled : IsFilledText place text points sites new
   pub orders : AreOrders place points sites function_order point_order site_order filled.old new
 
 -- A text is filled and printed, and its functions, points and sites had these numbers. All that it says stands there. What it leaves out
 -- is any number, any points and any sites: which are found is no promise.
-pub record IsPrinted (place : List ℕ → Option ℕ) (text : List ℕ) (function_order point_order site_order : List ℕ)
+pub record IsPrintedText (place : List ℕ → Option ℕ) (text : List ℕ) (function_order point_order site_order : List ℕ)
     (printed : List ℕ) : Type 0 where
   pub points : List Data
   pub sites : List Data
   pub new : Members
-  pub arranged : IsArranged place text points sites function_order point_order site_order new
+  pub arranged : IsArrangedText place text points sites function_order point_order site_order new
   pub shown : document printed ≡ Ok new
 
 -- Notes are a draft of a text: it is filled and printed, what is printed stands for them, and its functions had these numbers.
-pub record IsDraft (place : List ℕ → Option ℕ) (text : List ℕ) (function_order : List ℕ) (notes : Notes) : Type 0 where
+pub record IsNotesDraft (place : List ℕ → Option ℕ) (text : List ℕ) (function_order : List ℕ) (notes : Notes) : Type 0 where
   pub point_order : List ℕ
   pub site_order : List ℕ
   pub printed : List ℕ
-  pub is_printed : IsPrinted place text function_order point_order site_order printed
+  pub is_printed : IsPrintedText place text function_order point_order site_order printed
   pub stands : notes_of printed ≡ Ok notes
 
 -- ---- refusals
@@ -82,7 +82,7 @@ pub data FailsUnder (image : Image) (notes : Notes) (place : ℕ) (rule : RuleNa
 pub record HasRefusal (image : Image) (place : List ℕ → Option ℕ) (text : List ℕ) (at : ℕ) (rule : RuleName) : Type 0 where
   pub function_order : List ℕ
   pub notes : Notes
-  pub draft : IsDraft place text function_order notes
+  pub draft : IsNotesDraft place text function_order notes
   pub fails : FailsUnder image notes at rule
 
 -- ---- what is too large
@@ -94,8 +94,8 @@ HasManyLeaders image notes = (leaders : ℕ) × IsInferred image notes (inferred
 -- The notes of a text are too large: a filled text is printed longer than 1 MiB, or there are too many leaders under a draft.
 pub data IsLarge (image : Image) (place : List ℕ → Option ℕ) (text : List ℕ) : Type 0 where
   by_length : (function_order point_order site_order printed : List ℕ)
-      → IsPrinted place text function_order point_order site_order printed → 1048576 < length printed → IsLarge image place text
-  by_leaders : (function_order : List ℕ) (notes : Notes) → IsDraft place text function_order notes → HasManyLeaders image notes
+      → IsPrintedText place text function_order point_order site_order printed → 1048576 < length printed → IsLarge image place text
+  by_leaders : (function_order : List ℕ) (notes : Notes) → IsNotesDraft place text function_order notes → HasManyLeaders image notes
       → IsLarge image place text
 
 -- ---- faults that are no label's
@@ -130,12 +130,12 @@ pub data HasFault (image : Image) (place : List ℕ → Option ℕ) (text : List
       → HasFault image place text flaw
   by_depth : (points sites : List Data) (old : Members) → document text ≡ Ok old → IsTooDeep place points sites old flaw.fault
       → flaw.label ≡ None → HasFault image place text flaw
-  by_date : (points sites : List Data) (new : Members) → IsFilled place text points sites new → members_have_valid_dates new ≡ false
+  by_date : (points sites : List Data) (new : Members) → IsFilledText place text points sites new → members_have_valid_dates new ≡ false
       → flaw ≡ without_label faults.NotToml → HasFault image place text flaw
   by_notes : (function_order point_order site_order printed : List ℕ) (fault : TomlFault)
-      → IsPrinted place text function_order point_order site_order printed → notes_of printed ≡ Err fault
+      → IsPrintedText place text function_order point_order site_order printed → notes_of printed ≡ Err fault
       → flaw ≡ without_label (original_fault function_order point_order site_order fault) → HasFault image place text flaw
-  by_calls : (function_order : List ℕ) (notes : Notes) (k : ℕ) → IsDraft place text function_order notes → IsRecursive image notes k
+  by_calls : (function_order : List ℕ) (notes : Notes) (k : ℕ) → IsNotesDraft place text function_order notes → IsRecursive image notes k
       → flaw ≡ no_level function_order notes k → HasFault image place text flaw
 
 -- ---- what comes of a text

@@ -36,15 +36,15 @@ Completes image place text (completions.Whole printed) = IsComplete image place 
 Completes image place text completion = ⊤
 
 -- a fault that is no label's, told without a label
-abbrev pub unlabelled : {A : Type 0} → Result A TomlFault → Result A Flaw
-unlabelled (Ok x) = Ok x
-unlabelled (Err fault) = Err (record { fault = fault; label = None })
+abbrev pub flaw_without_label : {A : Type 0} → Result A TomlFault → Result A Flaw
+flaw_without_label (Ok x) = Ok x
+flaw_without_label (Err fault) = Err (record { fault = fault; label = None })
 
 -- the first fault of a label in a text, over the labels of objects whose files have these names; or that the text isn't TOML
 unfoldable pub label_faults : List (List ℕ) → List Label → List ℕ → Result (Unit {0}) Flaw
-label_faults names labels text = unlabelled (document text) >>= text_labels names labels
+label_faults names labels text = flaw_without_label (document text) >>= text_labels names labels
 
 -- what comes of a text is the first fault of a label, where it has one
-abbrev pub TellsFirst : Result (Unit {0}) Flaw → Completion → Type 0
-TellsFirst read (completions.Fault flaw) = (read ≡ Err flaw) ⊎ (read ≡ Ok tt)
-TellsFirst read completion = read ≡ Ok tt
+abbrev pub TellsFirstFlaw : Result (Unit {0}) Flaw → Completion → Type 0
+TellsFirstFlaw read (completions.Fault flaw) = (read ≡ Err flaw) ⊎ (read ≡ Ok tt)
+TellsFirstFlaw read completion = read ≡ Ok tt

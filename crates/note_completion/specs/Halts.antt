@@ -17,8 +17,8 @@ use Rattle.stack_needs.specs.Calls.{IsRecursive}
 use Rattle.toml.specs.Data.{Members, members_have_valid_dates}
 use Rattle.type_notes.specs.Notes.{notes_of}
 use Rattle.width_checker.specs.Typed.{Typed}
-use Rattle.note_completion.specs.Causes.{FailsUnder, HasFault, HasManyLeaders, HasRefusal, IsDraft, IsLarge, IsPrinted}
-use Rattle.note_completion.specs.Causes.{no_level, original_fault, without_label}
+use Rattle.note_completion.specs.Causes.{FailsUnder, HasFault, HasManyLeaders, HasRefusal, IsLarge, IsNotesDraft, IsPrintedText, no_level}
+use Rattle.note_completion.specs.Causes.{original_fault, without_label}
 use Rattle.note_completion.specs.Completions.{label_faults}
 use Rattle.note_completion.specs.declared.completion.Completion.{Completion}
 use Rattle.note_completion.specs.declared.completion.Completion.TheVariants as completions
@@ -28,37 +28,37 @@ use Rattle.note_completion.specs.declared.halt.Halt.TheVariants as halts
 use Rattle.note_completion.specs.declared.task.Task.{Task}
 
 -- the place that a text names by the labels of a task, and the first fault of a label in its text
-abbrev pub place_in : Task → List ℕ → Option ℕ
-place_in t text = place_by t.linked.plan.now.objects t.linked.labels.now.labels text
+abbrev pub task_place : Task → List ℕ → Option ℕ
+task_place t text = place_by t.linked.plan.now.objects t.linked.labels.now.labels text
 
-abbrev pub first_fault : Task → Result (Unit {0}) Flaw
-first_fault t = label_faults t.linked.plan.now.objects t.linked.labels.now.labels t.text.now
+abbrev pub first_label_fault : Task → Result (Unit {0}) Flaw
+first_label_fault t = label_faults t.linked.plan.now.objects t.linked.labels.now.labels t.text.now
 
 -- why a text isn't filled, or isn't notes, as why it isn't made complete
-abbrev pub of_fill : FillEnd → Halt
-of_fill (fills.Flaw flaw) = halts.Fault flaw
-of_fill fills.NoMemory = halts.NoMemory
+abbrev pub halt_of_fill : FillEnd → Halt
+halt_of_fill (fills.Flaw flaw) = halts.Fault flaw
+halt_of_fill fills.NoMemory = halts.NoMemory
 
-abbrev pub of_notes : NotesEnd → Halt
-of_notes (notes.Fault fault) = halts.Fault (record { fault = fault; label = None })
-of_notes notes.NoMemory = halts.NoMemory
+abbrev pub halt_of_notes : NotesEnd → Halt
+halt_of_notes (notes.Fault fault) = halts.Fault (record { fault = fault; label = None })
+halt_of_notes notes.NoMemory = halts.NoMemory
 
 -- what comes of a text that isn't made complete
-abbrev pub told : Halt → Result Completion NoMemory
-told (halts.Fault flaw) = Ok (completions.Fault flaw)
-told (halts.Refused place rule state) = Ok (completions.Refused place rule state)
-told halts.Large = Ok completions.Large
-told halts.NoMemory = Err (record {})
+abbrev pub halt_completion : Halt → Result Completion NoMemory
+halt_completion (halts.Fault flaw) = Ok (completions.Fault flaw)
+halt_completion (halts.Refused place rule state) = Ok (completions.Refused place rule state)
+halt_completion halts.Large = Ok completions.Large
+halt_completion halts.NoMemory = Err (record {})
 
 -- a step that ends the work tells the first fault of a label, where the text has one, unless memory ran out
-abbrev pub Ends : Halt → Result (Unit {0}) Flaw → Type 0
-Ends halts.NoMemory read = Unit {0}
-Ends (halts.Fault flaw) read = (read ≡ Err flaw) ⊎ (read ≡ Ok tt)
-Ends halt read = read ≡ Ok tt
+abbrev pub HaltsAfter : Halt → Result (Unit {0}) Flaw → Type 0
+HaltsAfter halts.NoMemory read = Unit {0}
+HaltsAfter (halts.Fault flaw) read = (read ≡ Err flaw) ⊎ (read ≡ Ok tt)
+HaltsAfter halt read = read ≡ Ok tt
 
-abbrev pub Tells : {X : Type 0} → Result X Halt → Result (Unit {0}) Flaw → Type 0
-Tells (Ok x) read = read ≡ Ok tt
-Tells (Err halt) read = Ends halt read
+abbrev pub GoesOnOrHalts : {X : Type 0} → Result X Halt → Result (Unit {0}) Flaw → Type 0
+GoesOnOrHalts (Ok x) read = read ≡ Ok tt
+GoesOnOrHalts (Err halt) read = HaltsAfter halt read
 
 -- A printed text stands for notes under which the image is typed, and has at most 1 MiB.
 pub record IsChecked (image : Image) (printed : List ℕ) : Type 0 where
@@ -71,18 +71,18 @@ pub record IsChecked (image : Image) (printed : List ℕ) : Type 0 where
 
 -- A draft of a task: notes that a filled text of it, printed, stands for.
 abbrev pub IsDrafted : Task → Draft → Type 0
-IsDrafted t d = IsDraft (place_in t) t.text.now d.filled.functions.items d.notes
+IsDrafted t d = IsNotesDraft (task_place t) t.text.now d.filled.functions.items d.notes
 
 -- a text is a filled one of a task, printed
 abbrev pub IsPrintedOf : Task → Filled → List ℕ → Type 0
 IsPrintedOf t filled printed =
-    IsPrinted (place_in t) t.text.now filled.functions.items filled.points.items filled.sites.items printed
+    IsPrintedText (task_place t) t.text.now filled.functions.items filled.points.items filled.sites.items printed
 
 -- an end of the work has its cause in the task's text; want of memory has none
 abbrev pub IsCaused : Task → Halt → Type 0
-IsCaused t (halts.Refused at rule state) = HasRefusal t.linked.image.now (place_in t) t.text.now at rule
-IsCaused t halts.Large = IsLarge t.linked.image.now (place_in t) t.text.now
-IsCaused t (halts.Fault flaw) = (first_fault t ≡ Err flaw) ⊎ HasFault t.linked.image.now (place_in t) t.text.now flaw
+IsCaused t (halts.Refused at rule state) = HasRefusal t.linked.image.now (task_place t) t.text.now at rule
+IsCaused t halts.Large = IsLarge t.linked.image.now (task_place t) t.text.now
+IsCaused t (halts.Fault flaw) = (first_label_fault t ≡ Err flaw) ⊎ HasFault t.linked.image.now (task_place t) t.text.now flaw
 IsCaused t halts.NoMemory = Unit {0}
 
 -- an end is a refusal at a place by a rule

@@ -6,8 +6,8 @@ ghost use Rattle.pe_image.specs.Images.{IsImage};
 ghost use Rattle.note_types.specs.Records.{IsNotes};
 ghost use Rattle.width_checker.specs.Typed.{Typed};
 ghost use Rattle.note_completion.specs.Causes.{FaultHasCause, LargeHasCause, RefusedHasCause};
-ghost use Rattle.note_completion.specs.Completions.{Completes, IsComplete, TellsFirst, label_faults};
-ghost use Rattle.note_completion.specs.Halts.{EndsByRule, EndsChecked, IsCaused, IsChecked, Tells, first_fault, place_in};
+ghost use Rattle.note_completion.specs.Completions.{Completes, IsComplete, TellsFirstFlaw, label_faults};
+ghost use Rattle.note_completion.specs.Halts.{EndsByRule, EndsChecked, GoesOnOrHalts, IsCaused, IsChecked, first_label_fault, task_place};
 
 use crate::completion::{Completion, Linked};
 use crate::depths::Depths;
@@ -58,7 +58,7 @@ impl<'a> Task<'a> {
     fn checked(self, alloc: Global, depths: &Depths, more: More) -> Result<String, Halt>
         requires image { IsImage self.linked.image.now }
         ensures whole { IfOk result (λ notes.
-            IsComplete self.entry.linked.image.now (place_in self.entry) self.entry.text.now (string_bytes notes)) }
+            IsComplete self.entry.linked.image.now (task_place self.entry) self.entry.text.now (string_bytes notes)) }
         ensures cause { IfErr result (IsCaused self.entry) }
     {
         let filled = self.fill(alloc, depths.found(), more)?;
@@ -73,7 +73,7 @@ impl<'a> Task<'a> {
     fn notes(self, alloc: Global) -> Result<String, Halt>
         requires image { IsImage self.linked.image.now }
         ensures whole { IfOk result (λ notes.
-            IsComplete self.entry.linked.image.now (place_in self.entry) self.entry.text.now (string_bytes notes)) }
+            IsComplete self.entry.linked.image.now (task_place self.entry) self.entry.text.now (string_bytes notes)) }
         ensures cause { IfErr result (IsCaused self.entry) }
     {
         let depths = self.depths(alloc)?;
@@ -86,8 +86,8 @@ impl<'a> Task<'a> {
     fn complete(self, alloc: Global) -> Result<String, Halt>
         requires image { IsImage self.linked.image.now }
         ensures whole { IfOk result (λ notes.
-            IsComplete self.entry.linked.image.now (place_in self.entry) self.entry.text.now (string_bytes notes)) }
-        ensures faults { Tells result (first_fault self.entry) }
+            IsComplete self.entry.linked.image.now (task_place self.entry) self.entry.text.now (string_bytes notes)) }
+        ensures faults { GoesOnOrHalts result (first_label_fault self.entry) }
         ensures cause { IfErr result (IsCaused self.entry) }
     {
         self.check_forms(alloc)?;
@@ -105,7 +105,7 @@ pub fn complete(alloc: Global, linked: Linked, text: &[u8]) -> Result<Completion
     requires image { IsImage linked.image.now }
     ensures whole { IfOk result (Completes linked.entry.image.now
         (place_by linked.entry.plan.now.objects linked.entry.labels.now.labels) text.now) }
-    ensures faults { IfOk result (TellsFirst (label_faults linked.entry.plan.now.objects linked.entry.labels.now.labels text.now)) }
+    ensures faults { IfOk result (TellsFirstFlaw (label_faults linked.entry.plan.now.objects linked.entry.labels.now.labels text.now)) }
     ensures refused { IfOk result (RefusedHasCause linked.entry.image.now
         (place_by linked.entry.plan.now.objects linked.entry.labels.now.labels) text.now) }
     ensures large { IfOk result (LargeHasCause linked.entry.image.now

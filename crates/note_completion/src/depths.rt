@@ -6,7 +6,7 @@ ghost use Rattle.note_completion.specs.Halts.{EndsByRule, EndsDepths, IsCaused, 
 ghost use Rattle.note_types.specs.Records.{IsNotes};
 ghost use Rattle.pe_image.specs.Images.{IsImage};
 ghost use Rattle.rules_image.specs.Images.{FunctionHolds};
-ghost use Rattle.stack_needs.specs.Calls.{HasCause};
+ghost use Rattle.stack_needs.specs.Calls.{HasStackCause};
 
 use crate::filling::Draft;
 use crate::halt::{Halt, refused};
@@ -100,7 +100,7 @@ fn recursion(alloc: Global, draft: &Draft, function: usize) -> Result<Flaw, NoMe
 
 // Why levels and needs aren't found in an image.
 fn not_found(alloc: Global, _image: &Image, draft: &Draft, end: NotFound) -> Halt
-    requires cause { HasCause _image.now draft.now.notes end }
+    requires cause { HasStackCause _image.now draft.now.notes end }
     ensures { EndsDepths _image.now draft.now result }
 {
     match end {

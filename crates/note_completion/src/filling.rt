@@ -1,8 +1,8 @@
 //! A text filled with what was found, printed, and read as notes.
 
 ghost use Rattle.std.specs.Prelude.{◌≡◌, ◌≤◌, IfErr, IfOk, Ok, map, string_bytes};
-ghost use Rattle.note_completion.specs.Causes.{IsArranged, original_fault, without_label};
-ghost use Rattle.note_completion.specs.Halts.{EndsPrinting, EndsRead, IsCaused, IsDrafted, IsToldAs, place_in};
+ghost use Rattle.note_completion.specs.Causes.{IsArrangedText, original_fault, without_label};
+ghost use Rattle.note_completion.specs.Halts.{EndsPrinting, EndsRead, IsCaused, IsDrafted, IsToldAs, task_place};
 ghost use Rattle.note_filling.specs.Originals.{original_path};
 ghost use Rattle.note_texts.specs.Keys.{document};
 ghost use Rattle.note_types.specs.Records.{IsNotes};
@@ -99,7 +99,7 @@ pub(crate) fn read_printed(alloc: Global, filled: &Filled, text: &str) -> Result
 impl<'a> Task<'a> {
     /// The text filled with what was found, and with more points and sites.
     pub fn fill(self, alloc: Global, found: Found, more: More) -> Result<Filled, Halt>
-        ensures arranged { IfOk result (λ filled. IsArranged (place_in self.entry) self.entry.text.now
+        ensures arranged { IfOk result (λ filled. IsArrangedText (task_place self.entry) self.entry.text.now
             (map view more.points.items) (map view more.sites.items) filled.functions.items filled.points.items filled.sites.items
             (table_view filled.table)) }
         ensures shallow { IfOk result (λ filled. members_depth (table_view filled.table) ≤ 80) }

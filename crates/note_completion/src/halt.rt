@@ -2,7 +2,7 @@
 
 ghost use Rattle.std.specs.Prelude.{◌≡◌};
 ghost use Rattle.note_completion.specs.declared.halt.Halt.TheVariants as halts;
-ghost use Rattle.note_completion.specs.Halts.{IsRefusal, of_fill, of_notes, told};
+ghost use Rattle.note_completion.specs.Halts.{IsRefusal, halt_completion, halt_of_fill, halt_of_notes};
 
 use crate::completion::Completion;
 use ebc_base::NoMemory;
@@ -52,7 +52,7 @@ impl From<NoMemory> for Halt {
 }
 
 impl From<FillEnd> for Halt {
-    ghost from_gives = { λ end e. e ≡ of_fill end };
+    ghost from_gives = { λ end e. e ≡ halt_of_fill end };
 
     fn from(end: FillEnd) -> Self {
         match end {
@@ -63,7 +63,7 @@ impl From<FillEnd> for Halt {
 }
 
 impl From<NotesEnd> for Halt {
-    ghost from_gives = { λ end e. e ≡ of_notes end };
+    ghost from_gives = { λ end e. e ≡ halt_of_notes end };
 
     fn from(end: NotesEnd) -> Self {
         match end {
@@ -87,7 +87,7 @@ pub(crate) fn refused(alloc: Global, place: u32, rule: RuleName) -> Halt
 impl Halt {
     /// What comes of the text.
     pub fn told(self) -> Result<Completion, NoMemory>
-        ensures { result ≡ told self }
+        ensures { result ≡ halt_completion self }
     {
         match self {
             Halt::Fault(flaw) => Ok(Completion::Fault(flaw)),

@@ -6,7 +6,7 @@
 //!   the text says (`IsComplete`).
 //! - `complete`: where the text isn't TOML, or has a fault of a label, the first such fault is told, and nothing else
 //!   (`label_faults`). It fails only where there is no memory.
-//! - `complete`: each other answer has a cause under a draft, which is notes that say all that the text says (`IsDraft`):
+//! - `complete`: each other answer has a cause under a draft, which is notes that say all that the text says (`IsNotesDraft`):
 //!   - `refused`: a rule is refused at a place only where it fails there under a draft (`HasRefusal`).
 //!   - `large`: notes are too large only where a filled text is printed longer than 1 MiB, or a draft has too many
 //!     leaders (`IsLarge`).

@@ -2,7 +2,7 @@
 
 ghost use Rattle.std.specs.Prelude.{◌≡◌, IfOk, IfSome};
 ghost use Rattle.label_places.specs.Sought.{place_by};
-ghost use Rattle.note_completion.specs.Causes.{IsDraft};
+ghost use Rattle.note_completion.specs.Causes.{IsNotesDraft};
 ghost use Rattle.note_completion.specs.Halts.{IsDrafted};
 ghost use Rattle.note_types.specs.Records.{IsNotes};
 ghost use Rattle.pe_image.specs.Images.{IsImage};
@@ -120,7 +120,7 @@ impl<'a> Task<'a> {
 pub fn stop_of(alloc: Global, linked: Linked, text: &[u8]) -> Result<Option<Stop>, NoMemory>
     requires image { IsImage linked.image.now }
     ensures conditions { IfOk result (λ found. IfSome found (λ stop. IsNotes stop.draft.notes)) }
-    ensures drafted { IfOk result (λ found. IfSome found (λ stop. IsDraft
+    ensures drafted { IfOk result (λ found. IfSome found (λ stop. IsNotesDraft
         (place_by linked.entry.plan.now.objects linked.entry.labels.now.labels) text.now
         stop.draft.filled.functions.items stop.draft.notes)) }
 {

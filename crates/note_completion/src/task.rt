@@ -1,7 +1,7 @@
 //! A text, and what it is made complete over.
 
 ghost use Rattle.std.specs.Prelude.{◌≡◌, IfErr};
-ghost use Rattle.note_completion.specs.Halts.{IsCaused, Tells, first_fault};
+ghost use Rattle.note_completion.specs.Halts.{GoesOnOrHalts, IsCaused, first_label_fault};
 
 use crate::completion::Linked;
 use crate::halt::Halt;
@@ -30,7 +30,7 @@ impl<'a> Task<'a> {
 
     /// Whether the text, in its own order, has the forms and the names of notes.
     pub fn check_forms(self, alloc: Global) -> Result<(), Halt>
-        ensures faults { Tells result (first_fault self.entry) }
+        ensures faults { GoesOnOrHalts result (first_label_fault self.entry) }
         ensures cause { IfErr result (IsCaused self.entry) }
     {
         let table = document(alloc, self.text)?;

@@ -11,8 +11,9 @@ pub use Rattle.ebc_base.specs.Steps.{◌>>=◌}
 pub use Rattle.note_types.specs.declared.fault.{NotesEnd.NotesEnd, TomlFault.TomlFault}
 pub use Rattle.note_draft.specs.Findings.{path_of}
 pub use Rattle.note_draft.specs.declared.finding.TableList.{TableList}
-pub use Rattle.note_filling.specs.Views.{AreFilledLists, IsAssembled, IsArranged, IsFilledList, list_at, Stands, IsReplaced, place_in}
+pub use Rattle.note_filling.specs.Views.{AreFilledLists, IsAssembled, IsArranged, IsFilledList, list_or_old, StoodAmong, IsReplaced}
+pub use Rattle.note_filling.specs.Views.{context_place}
 pub use Rattle.note_filling.specs.{Ends.Fails, Ends.of_notes, Kept.AreKept, Kept.IsPlacedAs, Members.IsExtended, Members.put_missing_member}
-pub use Rattle.note_filling.specs.{Members.text_in, Places.label_of, Views.labels_in, Views.names_in}
+pub use Rattle.note_filling.specs.{Members.text_at_key, Places.labelled_place, Views.context_labels, Views.context_names}
 pub use Rattle.note_filling.specs.declared.{end.FillEnd.FillEnd, order.Ranked.Ranked, table.Lists.Lists}
 unfoldable pub use Rattle.note_filling.specs.{Members.put_member, Rows.items_labels}

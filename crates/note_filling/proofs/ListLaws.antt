@@ -2,7 +2,7 @@
 use Rattle.note_filling.proofs.Common.{◌≡◌, ℕ, ◌+◌, ◌<◌, ◌≤◌, List, [], ◌∷◌, ◌++◌, length, get_or, map, take, drop, Option, Some, None, Vec}
 use Rattle.note_filling.proofs.Common.{Global, refl, sym, ap, ◌∙◌, subst, Result, Ok, Err, map-append, ◌>>=◌, TableList, Data, array}
 use Rattle.note_filling.proofs.Common.{string, integer, float, boolean, datetime, table, items_view, view, Value, AreKept, items_labels}
-use Rattle.note_filling.proofs.Common.{IsArranged, IsFilledList, list_at, Fails, FillEnd}
+use Rattle.note_filling.proofs.Common.{IsArranged, IsFilledList, list_or_old, Fails, FillEnd}
 use Rattle.std.proofs.lemmas.List.{drop_all, Elements.AllZip-push}
 use Rattle.ebc_link.proofs.LaidLaws.{at_hand, taken}
 use Rattle.label_places.specs.declared.label.Label.{Label}
@@ -90,18 +90,18 @@ filled-array place list found d xs values there is kept =
 
 -- ---- a list in the printed text
 
-unchanged : (filled : Option (Vec Value Global)) (old new : Option Data) → filled ≡ None → new ≡ list_at filled old → new ≡ old
+unchanged : (filled : Option (Vec Value Global)) (old new : Option Data) → filled ≡ None → new ≡ list_or_old filled old → new ≡ old
 unchanged None old new none is = is
 unchanged (Some values) old new none is = absurd cc
 
 pub list-kept : (place : List ℕ → Option ℕ) (list : TableList) (old : Option Data) (filled : Option (Vec Value Global)) (new : Option Data)
-    → IsFilledList place list old filled → new ≡ list_at filled old → IsListKept place list old new
+    → IsFilledList place list old filled → new ≡ list_or_old filled old → IsListKept place list old new
 list-kept place list (Some (array ds)) (Some values) new kept is = (map view values.items, (is, kept))
 list-kept place list (Some (array ds)) None new kept is = absurd kept
 list-kept place list old filled new none is = unchanged filled old new none is
 
 made : (more : List Data) (old : Option Data) (filled arranged : Option (Vec Value Global)) (new : Option Data) → filled ≡ None
-    → IsArranged filled more arranged → new ≡ list_at arranged old → IsListMade more old new
+    → IsArranged filled more arranged → new ≡ list_or_old arranged old → IsListMade more old new
 made [] old None None new none put is = is
 made [] old None (Some values) new none put is = absurd cc
 made (d ∷ ds) old None (Some values) new none put is = (map view values.items, (is, put))
@@ -110,7 +110,7 @@ made more old (Some values) arranged new none put is = absurd cc
 
 pub list-mixed : (place : List ℕ → Option ℕ) (list : TableList) (more : List Data) (old : Option Data)
     (filled arranged : Option (Vec Value Global)) (new : Option Data) → IsFilledList place list old filled → IsArranged filled more arranged
-    → new ≡ list_at arranged old → IsListMixed place list more old new
+    → new ≡ list_or_old arranged old → IsListMixed place list more old new
 list-mixed place list more (Some (array ds)) (Some values) (Some others) new kept put is =
     (map view others.items, (is, record { kept = map view values.items; are_kept = kept; mixed = put }))
 list-mixed place list more (Some (array ds)) (Some values) None new kept put is = absurd put

@@ -1,11 +1,11 @@
 -- The numbers that items had before they were put in order.
 use Rattle.note_filling.proofs.Common.{◌≡◌, ℕ, List, [], ◌∷◌, ◌++◌, length, map, Option, Some, None, Vec, Global, All, refl, sym, ap, ◌∙◌}
 use Rattle.note_filling.proofs.Common.{subst, map-append, TableList, Data, array, string, integer, float, boolean, datetime, table, view}
-use Rattle.note_filling.proofs.Common.{Value, AreKept, IsArranged, IsFilledList, Stands, list_at, Ranked}
+use Rattle.note_filling.proofs.Common.{Value, AreKept, IsArranged, IsFilledList, StoodAmong, list_or_old, Ranked}
 use Rattle.std.specs.Prelude.{slice_get}
 use Rattle.std.proofs.lemmas.List.Elements.{All-head, All-push, All-tail, All-weaker}
 use Rattle.ebc_base.proofs.Lists.{length-map, slice_get-front}
-use Rattle.note_filling.specs.{Originals.IsOrder, Originals.IsOrderOf, Originals.items_in, Views.items_from}
+use Rattle.note_filling.specs.{Originals.IsOrder, Originals.IsOrderOf, Originals.items_in, Views.items_if_any}
 use Rattle.note_filling.proofs.ListLaws.{list-of-items}
 
 -- one more item stands behind the others
@@ -13,20 +13,21 @@ stands_last : (items : List Data) (d : Data) → slice_get (items ++ d ∷ []) (
 stands_last [] d = refl
 stands_last (x ∷ xs) d = stands_last xs d
 
-pub all_stand : (items : List Data) (rs : List Ranked) (r : Ranked) → All (Stands items) rs → r.index ≡ length items
-    → All (Stands (items ++ view r.value ∷ [])) (rs ++ r ∷ [])
+pub all_stand : (items : List Data) (rs : List Ranked) (r : Ranked) → All (StoodAmong items) rs → r.index ≡ length items
+    → All (StoodAmong (items ++ view r.value ∷ [])) (rs ++ r ∷ [])
 all_stand items rs r before here =
     let more = items ++ view r.value ∷ [] in
-    All-push (Stands more) rs r
-    (All-weaker (Stands items) (Stands more) (λ x there. slice_get-front items (view r.value ∷ []) x.index (view x.value) there) rs before)
+    All-push (StoodAmong more) rs r
+    (All-weaker (StoodAmong items) (StoodAmong more)
+    (λ x there. slice_get-front items (view r.value ∷ []) x.index (view x.value) there) rs before)
     (ap (slice_get more) here ∙ stands_last items (view r.value))
 
 -- the numbered items, one more of them
 pub one_more : (values : List Value) (rs : List Ranked) (r : Ranked) (new : List Ranked)
-    → map (λ (x : Ranked). view x.value) rs ≡ map view values → All (Stands (map view values)) rs → r.index ≡ length rs
+    → map (λ (x : Ranked). view x.value) rs ≡ map view values → All (StoodAmong (map view values)) rs → r.index ≡ length rs
     → new ≡ rs ++ r ∷ []
     → (map (λ (x : Ranked). view x.value) new ≡ map view (values ++ r.value ∷ []))
-    × All (Stands (map view (values ++ r.value ∷ []))) new
+    × All (StoodAmong (map view (values ++ r.value ∷ []))) new
 one_more values rs r new are stood at is =
     let items : map view (values ++ r.value ∷ []) ≡ map view values ++ view r.value ∷ [] = map-append view values (r.value ∷ []) in
     let seen : Ranked → Data = λ (x : Ranked). view x.value in
@@ -37,17 +38,17 @@ one_more values rs r new are stood at is =
     )
 
 -- items that each stood at its number stand in an order
-pub order_by : (items : List Data) (rs : List Ranked) → All (Stands items) rs → IsOrder items (map (λ (r : Ranked). r.index) rs)
+pub order_by : (items : List Data) (rs : List Ranked) → All (StoodAmong items) rs → IsOrder items (map (λ (r : Ranked). r.index) rs)
     (map (λ (r : Ranked). view r.value) rs)
 order_by items [] all = tt
 order_by items (r ∷ rs) all =
-    (All-head (Stands items) r rs all, order_by items rs (All-tail (Stands items) r rs all))
+    (All-head (StoodAmong items) r rs all, order_by items rs (All-tail (StoodAmong items) r rs all))
 
 -- ---- a list in the printed text
 
 behind : (place : List ℕ → Option ℕ) (list : TableList) (more : List Data) (order : List ℕ) (old : Option Data)
     (filled arranged : Option (Vec Value Global)) (new : Option Data) → items_in old ≡ [] → filled ≡ None
-    → IsOrder (items_from filled ++ more) order (items_from arranged) → new ≡ list_at arranged old
+    → IsOrder (items_if_any filled ++ more) order (items_if_any arranged) → new ≡ list_or_old arranged old
     → IsOrderOf place list (items_in old) more order (items_in new)
 behind place list more order old (Some values) arranged new empty none stood is = absurd cc
 behind place list more order old None None new empty none stood is = record {
@@ -63,7 +64,7 @@ behind place list more order old None (Some values) new empty none stood is = re
 
 pub list_order : (place : List ℕ → Option ℕ) (list : TableList) (more : List Data) (order : List ℕ) (old : Option Data)
     (filled arranged : Option (Vec Value Global)) (new : Option Data) → IsFilledList place list old filled → IsArranged filled more arranged
-    → IsOrder (items_from filled ++ more) order (items_from arranged) → new ≡ list_at arranged old
+    → IsOrder (items_if_any filled ++ more) order (items_if_any arranged) → new ≡ list_or_old arranged old
     → IsOrderOf place list (items_in old) more order (items_in new)
 list_order place list more order (Some (array ds)) (Some values) (Some others) new kept put stood is = record {
   kept = map view values.items;

@@ -1,14 +1,14 @@
 -- The place that a text names, and a table with it at a key.
 use Rattle.note_filling.proofs.Common.{◌≡◌, ℕ, ◌+◌, Bool, true, false, List, Option, Some, None, refl, sym, ap, ◌∙◌, subst, Result, Ok, Err}
 use Rattle.note_filling.proofs.Common.{option_and_then, ◌>>=◌, TomlFault, Data, string, integer, float, boolean, datetime, array, table}
-use Rattle.note_filling.proofs.Common.{Members, get_member, as_str, IsPlacedAs, put_member, label_of, IsReplaced}
+use Rattle.note_filling.proofs.Common.{Members, get_member, as_str, IsPlacedAs, put_member, labelled_place, IsReplaced}
 use Rattle.std.proofs.Common.{pos, not}
 use Rattle.std.specs.Prelude.{nat_eq, ◌&&◌}
 use Rattle.ebc_base.specs.Steps.{or_else, passes}
 use Rattle.label_places.specs.{References.LabelReference, References.reference_of, Sought.behind, Sought.place_by, Sought.position_of}
 use Rattle.label_places.specs.declared.{label.Label.Label, label.Position.Position, seeking.NotFound.NotFound}
 use Rattle.label_places.specs.declared.seeking.NotFound.TheVariants.{Unknown, Several}
-use Rattle.note_filling.specs.{Places.flawed, Places.placed_by, Places.placed_in, Places.told, Places.told_at, Views.put_place}
+use Rattle.note_filling.specs.{Places.flawed, Places.found_position, Places.placed_by, Places.placed_in, Places.told_at, Views.put_place}
 use Rattle.note_filling.specs.declared.label.{LabelFault.LabelFault, Placed.Placed}
 use Rattle.note_filling.proofs.MemberLaws.{get-put, get-put_other}
 use Rattle.note_filling.specs.declared.label.LabelFault.TheVariants as faults
@@ -25,7 +25,7 @@ by_test true position addend p e =
 by_test false position addend p e = absurd cc
 
 by_position : (code : Bool) (addend : ℕ) (p : Placed) (found : Result Position NotFound)
-    → (told found >>= (λ position. passes (not (code && nat_eq position.section 2)) faults.Data
+    → (found_position found >>= (λ position. passes (not (code && nat_eq position.section 2)) faults.Data
     >>= (λ _. Ok (record { position = position; place = position.place + addend })))) ≡ Ok p
     → behind addend found ≡ Some p.place
 by_position code addend p (Ok position) e = by_test (not (code && nat_eq position.section 2)) position addend p e
@@ -33,7 +33,7 @@ by_position code addend p (Err Unknown) e = absurd cc
 by_position code addend p (Err Several) e = absurd cc
 
 by_reference : (code : Bool) (names : List (List ℕ)) (labels : List Label) (p : Placed) (o : Option LabelReference)
-    → (or_else faults.Form o >>= (λ (r : LabelReference). told (position_of names labels r)
+    → (or_else faults.Form o >>= (λ (r : LabelReference). found_position (position_of names labels r)
     >>= (λ position. passes (not (code && nat_eq position.section 2)) faults.Data
     >>= (λ _. Ok (record { position = position; place = position.place + r.addend }))))) ≡ Ok p
     → option_and_then (λ (r : LabelReference). behind r.addend (position_of names labels r)) o ≡ Some p.place
@@ -53,7 +53,7 @@ by_reading names labels code path text p (Ok q) is e =
 by_reading names labels code path text p (Err fault) is e = absurd cc
 
 pub placed-some : (code : Bool) (names : List (List ℕ)) (labels : List Label) (path : List ℕ) (t : Option (List ℕ)) (p : Placed)
-    → label_of code names labels path t ≡ Ok (Some p)
+    → labelled_place code names labels path t ≡ Ok (Some p)
     → (text : List ℕ) × ((t ≡ Some text) × (place_by names labels text ≡ Some p.place))
 unfolding placed_in
 placed-some code names labels path None p e = absurd cc
@@ -65,7 +65,7 @@ nothing_read text (Ok q) e = cc
 nothing_read text (Err fault) e = cc
 
 pub placed-none : (code : Bool) (names : List (List ℕ)) (labels : List Label) (path : List ℕ) (t : Option (List ℕ))
-    → label_of code names labels path t ≡ Ok None → t ≡ None
+    → labelled_place code names labels path t ≡ Ok None → t ≡ None
 placed-none code names labels path None e = refl
 placed-none code names labels path (Some text) e = absurd (nothing_read text (placed_in code names labels path text) e)
 
@@ -108,7 +108,7 @@ replaced-none place key old texts = record {
 -- what a text names is put there
 pub replaced_by : (code : Bool) (names : List (List ℕ)) (labels : List Label) (path key : List ℕ) (t : Option (List ℕ)) (placed : Option
     Placed)
-    (old new : Members) → label_of code names labels path t ≡ Ok placed → ((d : Data) → get_member key old ≡ Some d → as_str d ≡ t)
+    (old new : Members) → labelled_place code names labels path t ≡ Ok placed → ((d : Data) → get_member key old ≡ Some d → as_str d ≡ t)
     → new ≡ put_place key placed old → IsReplaced (place_by names labels) key old new
 replaced_by code names labels path key t (Some p) old new read texts put =
     let found = placed-some code names labels path t p read in

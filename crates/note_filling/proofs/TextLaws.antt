@@ -1,6 +1,6 @@
 -- What stands in a text that is made of filled lists.
 use Rattle.note_filling.proofs.Common.{◌≡◌, ℕ, false, List, [], Option, Some, None, Vec, Global, refl, ap, ◌∙◌, bytes_eq, codes, Data}
-use Rattle.note_filling.proofs.Common.{Members, get_member, Value, put_missing_member, AreFilledLists, IsAssembled, list_at, Lists}
+use Rattle.note_filling.proofs.Common.{Members, get_member, Value, put_missing_member, AreFilledLists, IsAssembled, list_or_old, Lists}
 use Rattle.std.proofs.lemmas.Bool.{or_parts}
 use Rattle.note_filling.specs.{Kept.IsTextKept, Views.AreArranged, Views.put_items}
 use Rattle.note_filling.proofs.{ListLaws.list-kept, ListLaws.list-mixed, MemberLaws.extended-put_missing}
@@ -8,7 +8,7 @@ use Rattle.note_filling.proofs.MemberLaws.{get-put, get-put_missing_other, get-p
 use Rattle.note_draft.specs.declared.finding.TableList.TheVariants as lists
 
 here : (k : List ℕ) (values : Option (Vec Value Global)) (old new : Members) → new ≡ put_items k values old
-    → get_member k new ≡ list_at values (get_member k old)
+    → get_member k new ≡ list_or_old values (get_member k old)
 here k None old new is = ap (get_member k) is
 here k (Some values) old new is = ap (get_member k) is ∙ get-put k _ old
 
@@ -57,25 +57,25 @@ assembled_by made m0 m1 m2 m3 m4 m5 m6 m7 s = record {
       ∙ (other (codes "static") (codes "point") made.points m5 m6 s.points refl
       ∙ (other (codes "static") (codes "function") made.functions m4 m5 s.functions refl
       ∙ (other (codes "static") (codes "thunk") made.thunks m3 m4 s.thunks refl
-      ∙ (here (codes "static") made.statics m2 m3 s.statics ∙ ap (list_at made.statics) (head (codes "static") refl refl)))));
+      ∙ (here (codes "static") made.statics m2 m3 s.statics ∙ ap (list_or_old made.statics) (head (codes "static") refl refl)))));
   thunks = other (codes "thunk") (codes "site") made.sites m6 m7 s.sites refl
       ∙ (other (codes "thunk") (codes "point") made.points m5 m6 s.points refl
       ∙ (other (codes "thunk") (codes "function") made.functions m4 m5 s.functions refl
       ∙ (here (codes "thunk") made.thunks m3 m4 s.thunks
-      ∙ ap (list_at made.thunks) (other (codes "thunk") (codes "static") made.statics m2 m3 s.statics refl ∙ head (codes "thunk") refl
+      ∙ ap (list_or_old made.thunks) (other (codes "thunk") (codes "static") made.statics m2 m3 s.statics refl ∙ head (codes "thunk") refl
       refl))));
   functions = other (codes "function") (codes "site") made.sites m6 m7 s.sites refl
       ∙ (other (codes "function") (codes "point") made.points m5 m6 s.points refl
       ∙ (here (codes "function") made.functions m4 m5 s.functions
-      ∙ ap (list_at made.functions) (other (codes "function") (codes "thunk") made.thunks m3 m4 s.thunks refl
+      ∙ ap (list_or_old made.functions) (other (codes "function") (codes "thunk") made.thunks m3 m4 s.thunks refl
       ∙ (other (codes "function") (codes "static") made.statics m2 m3 s.statics refl ∙ head (codes "function") refl refl))));
   points = other (codes "point") (codes "site") made.sites m6 m7 s.sites refl
       ∙ (here (codes "point") made.points m5 m6 s.points
-      ∙ ap (list_at made.points) (other (codes "point") (codes "function") made.functions m4 m5 s.functions refl
+      ∙ ap (list_or_old made.points) (other (codes "point") (codes "function") made.functions m4 m5 s.functions refl
       ∙ (other (codes "point") (codes "thunk") made.thunks m3 m4 s.thunks refl
       ∙ (other (codes "point") (codes "static") made.statics m2 m3 s.statics refl ∙ head (codes "point") refl refl))));
   sites = here (codes "site") made.sites m6 m7 s.sites
-      ∙ ap (list_at made.sites) (other (codes "site") (codes "point") made.points m5 m6 s.points refl
+      ∙ ap (list_or_old made.sites) (other (codes "site") (codes "point") made.points m5 m6 s.points refl
       ∙ (other (codes "site") (codes "function") made.functions m4 m5 s.functions refl
       ∙ (other (codes "site") (codes "thunk") made.thunks m3 m4 s.thunks refl
       ∙ (other (codes "site") (codes "static") made.statics m2 m3 s.statics refl ∙ head (codes "site") refl refl))));
@@ -102,9 +102,9 @@ text_kept place points sites old new filled made are_filled arranged is = record
   entry = is.entry;
   statics = list-kept place lists.Static (get_member (codes "static") old) filled.statics (get_member (codes "static") new)
       are_filled.statics
-      (is.statics ∙ ap (λ values. list_at values (get_member (codes "static") old)) arranged.statics);
+      (is.statics ∙ ap (λ values. list_or_old values (get_member (codes "static") old)) arranged.statics);
   thunk = list-kept place lists.Thunk (get_member (codes "thunk") old) filled.thunks (get_member (codes "thunk") new) are_filled.thunks
-      (is.thunks ∙ ap (λ values. list_at values (get_member (codes "thunk") old)) arranged.thunks);
+      (is.thunks ∙ ap (λ values. list_or_old values (get_member (codes "thunk") old)) arranged.thunks);
   function = list-mixed place lists.Function [] (get_member (codes "function") old) filled.functions made.functions
       (get_member (codes "function") new) are_filled.functions arranged.functions is.functions;
   point = list-mixed place lists.Point points (get_member (codes "point") old) filled.points made.points

@@ -6,8 +6,8 @@ use Rattle.std.specs.Option.{option_and_then}
 use Rattle.toml.specs.Data.{Data, Members, no_members, member, get_member, as_str}
 
 -- the text at a key
-abbrev pub text_in : List ℕ → Members → Option (List ℕ)
-text_in key ms = option_and_then as_str (get_member key ms)
+abbrev pub text_at_key : List ℕ → Members → Option (List ℕ)
+text_at_key key ms = option_and_then as_str (get_member key ms)
 
 -- the members, with a value at a key
 unfoldable pub put_member : List ℕ → Data → Members → Members

@@ -12,12 +12,12 @@ use Rattle.toml.specs.Data.{Data, Members, array, get_member}
 use Rattle.note_filling.specs.Kept.{AreKept, list_of}
 
 -- the path of an item of a list by its number, with more behind it
-abbrev pub item_path : List ℕ → List ℕ → ℕ → List ℕ
-item_path list rest number = list ++ (codes "[" ++ (decimal number ++ (codes "]" ++ rest)))
+abbrev pub path_in_item : List ℕ → List ℕ → ℕ → List ℕ
+path_in_item list rest number = list ++ (codes "[" ++ (decimal number ++ (codes "]" ++ rest)))
 
 -- a path whose number stands before `]`, by the number that the item there had; none where the order has no such number
 abbrev pub by_number : List ℕ → List ℕ → List ℕ × Option (List ℕ) → Option (List ℕ)
-by_number list order parts = option_and_then (λ number. option_map (item_path list (unwrap_or parts.1 [])) (slice_get order number))
+by_number list order parts = option_and_then (λ number. option_map (path_in_item list (unwrap_or parts.1 [])) (slice_get order number))
     (number_in 0 0xffffffff parts.0)
 
 abbrev pub behind_list : List ℕ → List ℕ → Option (List ℕ) → Option (List ℕ)

@@ -15,16 +15,16 @@ use Rattle.note_filling.specs.declared.label.LabelFault.TheVariants as faults
 use Rattle.note_filling.specs.declared.label.Placed.{Placed}
 
 -- where a label stands, or that none has the name, or several have it
-abbrev pub told : Result Position NotFound → Result Position LabelFault
-told (Ok position) = Ok position
-told (Err Unknown) = Err faults.Unknown
-told (Err Several) = Err faults.Several
+abbrev pub found_position : Result Position NotFound → Result Position LabelFault
+found_position (Ok position) = Ok position
+found_position (Err Unknown) = Err faults.Unknown
+found_position (Err Several) = Err faults.Several
 
 -- the place that a text names, of a label of the code where that is wanted
 unfoldable pub placed_by : Bool → List (List ℕ) → List Label → List ℕ → Result Placed LabelFault
 placed_by code names labels text = do
   r ← or_else faults.Form (reference_of text)
-  position ← told (position_of names labels r)
+  position ← found_position (position_of names labels r)
   _ ← passes (not (code && nat_eq position.section 2)) faults.Data
   Ok (record { position = position; place = position.place + r.addend })
 
@@ -49,6 +49,6 @@ flawed text (Ok x) = Ok x
 flawed text (Err fault) = Err (record { fault = fault; label = Some text })
 
 -- the place that the text at a path names, where one is there
-abbrev pub label_of : Bool → List (List ℕ) → List Label → List ℕ → Option (List ℕ) → Result (Option Placed) Flaw
-label_of code names labels path None = Ok None
-label_of code names labels path (Some text) = flawed text (placed_in code names labels path text) >>= (λ p. Ok (Some p))
+abbrev pub labelled_place : Bool → List (List ℕ) → List Label → List ℕ → Option (List ℕ) → Result (Option Placed) Flaw
+labelled_place code names labels path None = Ok None
+labelled_place code names labels path (Some text) = flawed text (placed_in code names labels path text) >>= (λ p. Ok (Some p))

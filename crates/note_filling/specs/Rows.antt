@@ -8,8 +8,8 @@ use Rattle.note_draft.specs.declared.finding.Key.TheVariants as keys
 use Rattle.note_draft.specs.declared.finding.TableList.{TableList}
 use Rattle.note_draft.specs.declared.finding.TableList.TheVariants as lists
 use Rattle.toml.specs.Data.{Data, Items, no_items, item, Members, get_member, table, array, as_str}
-use Rattle.note_filling.specs.Members.{text_in}
-use Rattle.note_filling.specs.Places.{label_of}
+use Rattle.note_filling.specs.Members.{text_at_key}
+use Rattle.note_filling.specs.Places.{labelled_place}
 use Rattle.note_filling.specs.declared.end.Flaw.{Flaw}
 
 -- whether the labels of a list's tables are those of the code
@@ -29,24 +29,24 @@ place_keys list = codes "place" ∷ []
 -- the fault of the label that a text is at a key of a table of a list
 abbrev pub label_fault : List (List ℕ) → List Label → TableList → Key → ℕ → Option (List ℕ) → Result (Unit {0}) Flaw
 label_fault names labels list key i text =
-    label_of (is_code list) names labels (path_of (record { list = list; item = i; key = key })) text >>= (λ _. Ok tt)
+    labelled_place (is_code list) names labels (path_of (record { list = list; item = i; key = key })) text >>= (λ _. Ok tt)
 
 -- the text that names a function's place: that at `place`, or, where this is left out, its name
 abbrev pub place_text_or : Option (List ℕ) → Option Data → Option (List ℕ)
 place_text_or name None = name
 place_text_or name (Some d) = as_str d
 
-abbrev pub function_text : Members → Option (List ℕ)
-function_text row = place_text_or (text_in (codes "name") row) (get_member (codes "place") row)
+abbrev pub place_naming_text : Members → Option (List ℕ)
+place_naming_text row = place_text_or (text_at_key (codes "name") row) (get_member (codes "place") row)
 
 -- the first fault of a label in a table of a list
 unfoldable pub row_labels : List (List ℕ) → List Label → TableList → ℕ → Members → Result (Unit {0}) Flaw
 row_labels names labels lists.Shape i row = Ok tt
 row_labels names labels lists.Signature i row = Ok tt
 row_labels names labels lists.Function i row = do
-  _ ← label_fault names labels lists.Function keys.Place i (function_text row)
-  label_fault names labels lists.Function keys.End i (text_in (codes "end") row)
-row_labels names labels list i row = label_fault names labels list keys.Place i (text_in (codes "place") row)
+  _ ← label_fault names labels lists.Function keys.Place i (place_naming_text row)
+  label_fault names labels lists.Function keys.End i (text_at_key (codes "end") row)
+row_labels names labels list i row = label_fault names labels list keys.Place i (text_at_key (codes "place") row)
 
 -- the same of an item of a list
 abbrev pub item_labels : List (List ℕ) → List Label → TableList → ℕ → Data → Result (Unit {0}) Flaw

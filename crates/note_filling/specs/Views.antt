@@ -23,14 +23,14 @@ use Rattle.note_filling.specs.declared.table.Orders.{Orders}
 use Rattle.note_filling.specs.Originals.{IsOrder}
 
 -- the names of the objects, their labels, and the place that a text names by them
-abbrev pub names_in : Context → List (List ℕ)
-names_in c = c.names.now
+abbrev pub context_names : Context → List (List ℕ)
+context_names c = c.names.now
 
-abbrev pub labels_in : Context → List Label
-labels_in c = c.labels.now.labels
+abbrev pub context_labels : Context → List Label
+context_labels c = c.labels.now.labels
 
-abbrev pub place_in : Context → List ℕ → Option ℕ
-place_in c text = place_by (names_in c) (labels_in c) text
+abbrev pub context_place : Context → List ℕ → Option ℕ
+context_place c text = place_by (context_names c) (context_labels c) text
 
 -- A table with the place of the label at one key.
 pub record IsReplaced (place : List ℕ → Option ℕ) (key : List ℕ) (old new : Members) : Type 0 where
@@ -67,15 +67,15 @@ IsArranged None (d ∷ ds) (Some new) = IsPermutation (d ∷ ds) (map view new.i
 IsArranged None (d ∷ ds) None = ⊥
 
 -- the items of a list, none where there is none
-abbrev pub items_from : Option (Vec Value Global) → List Data
-items_from None = []
-items_from (Some values) = map view values.items
+abbrev pub items_if_any : Option (Vec Value Global) → List Data
+items_if_any None = []
+items_if_any (Some values) = map view values.items
 
 -- The items of lists that are put in order had these numbers, with more points and sites behind the others.
 pub record AreOrdered (old : Lists) (more_points more_sites : List Data) (orders : Orders) (new : Lists) : Type 0 where
-  pub functions : IsOrder (items_from old.functions ++ []) orders.functions.items (items_from new.functions)
-  pub points : IsOrder (items_from old.points ++ more_points) orders.points.items (items_from new.points)
-  pub sites : IsOrder (items_from old.sites ++ more_sites) orders.sites.items (items_from new.sites)
+  pub functions : IsOrder (items_if_any old.functions ++ []) orders.functions.items (items_if_any new.functions)
+  pub points : IsOrder (items_if_any old.points ++ more_points) orders.points.items (items_if_any new.points)
+  pub sites : IsOrder (items_if_any old.sites ++ more_sites) orders.sites.items (items_if_any new.sites)
 
 -- Lists put in order, with more points and sites.
 pub record AreArranged (old : Lists) (more_points more_sites : List Data) (new : Lists) : Type 0 where
@@ -86,15 +86,15 @@ pub record AreArranged (old : Lists) (more_points more_sites : List Data) (new :
   pub sites : IsArranged old.sites more_sites new.sites
 
 -- an item stood at its number among these
-abbrev pub Stands : List Data → Ranked → Type 0
-Stands items r = slice_get items r.index ≡ Some (view r.value)
+abbrev pub StoodAmong : List Data → Ranked → Type 0
+StoodAmong items r = slice_get items r.index ≡ Some (view r.value)
 
 -- ---- the text
 
 -- what stands at a key behind a list was put there, if there is one
-abbrev pub list_at : Option (Vec Value Global) → Option Data → Option Data
-list_at None old = old
-list_at (Some values) old = Some (array (items_of (map view values.items)))
+abbrev pub list_or_old : Option (Vec Value Global) → Option Data → Option Data
+list_or_old None old = old
+list_or_old (Some values) old = Some (array (items_of (map view values.items)))
 
 abbrev pub put_items : List ℕ → Option (Vec Value Global) → Members → Members
 put_items key None ms = ms
@@ -104,11 +104,11 @@ put_items key (Some values) ms = put_member key (array (items_of (map view value
 pub record IsAssembled (made : Lists) (old new : Members) : Type 0 where
   pub version : (d : Data) → get_member (codes "version") old ≡ Some d → get_member (codes "version") new ≡ Some d
   pub entry : (d : Data) → get_member (codes "entry") old ≡ Some d → get_member (codes "entry") new ≡ Some d
-  pub statics : get_member (codes "static") new ≡ list_at made.statics (get_member (codes "static") old)
-  pub thunks : get_member (codes "thunk") new ≡ list_at made.thunks (get_member (codes "thunk") old)
-  pub functions : get_member (codes "function") new ≡ list_at made.functions (get_member (codes "function") old)
-  pub points : get_member (codes "point") new ≡ list_at made.points (get_member (codes "point") old)
-  pub sites : get_member (codes "site") new ≡ list_at made.sites (get_member (codes "site") old)
+  pub statics : get_member (codes "static") new ≡ list_or_old made.statics (get_member (codes "static") old)
+  pub thunks : get_member (codes "thunk") new ≡ list_or_old made.thunks (get_member (codes "thunk") old)
+  pub functions : get_member (codes "function") new ≡ list_or_old made.functions (get_member (codes "function") old)
+  pub points : get_member (codes "point") new ≡ list_or_old made.points (get_member (codes "point") old)
+  pub sites : get_member (codes "site") new ≡ list_or_old made.sites (get_member (codes "site") old)
   pub rest : (key : List ℕ) → is_named key filled_keys ≡ false → get_member key new ≡ get_member key old
 
 -- a function tells the first fault of a label, or one that is no label's, unless memory ran out
@@ -116,6 +116,6 @@ abbrev pub Refuses : FillEnd → Result (Unit {0}) Fault → Type 0
 Refuses ends.NoMemory read = Unit {0}
 Refuses (ends.Flaw f) read = (read ≡ Err f) ⊎ ((read ≡ Ok tt) × (f.label ≡ None))
 
-abbrev pub Tells : {X : Type 0} → Result X FillEnd → Result (Unit {0}) Fault → Type 0
-Tells (Ok x) read = read ≡ Ok tt
-Tells (Err e) read = Refuses e read
+abbrev pub GoesOnOrRefuses : {X : Type 0} → Result X FillEnd → Result (Unit {0}) Fault → Type 0
+GoesOnOrRefuses (Ok x) read = read ≡ Ok tt
+GoesOnOrRefuses (Err e) read = Refuses e read

@@ -2,7 +2,7 @@
 ghost use Rattle.std.specs.Prelude.{◌≡◌, ◌++◌, IfOk, OnOk, map};
 ghost use Rattle.toml.specs.View.{table_view, view};
 ghost use Rattle.note_filling.specs.Originals.{IsOrder};
-ghost use Rattle.note_filling.specs.Views.{AreArranged, AreOrdered, IsArranged, IsAssembled, items_from, put_items};
+ghost use Rattle.note_filling.specs.Views.{AreArranged, AreOrdered, IsArranged, IsAssembled, items_if_any, put_items};
 
 use crate::context::More;
 use crate::members::{number, put, put_missing};
@@ -19,7 +19,7 @@ fn arranged_list(
     more: Vec<Value>,
 ) -> Result<(Option<Vec<Value>>, Vec<usize>), NoMemory>
     ensures arranged { IfOk result (λ parts. IsArranged items (map view more.items) parts.0) }
-    ensures order { IfOk result (λ parts. IsOrder (items_from items ++ map view more.items) parts.1.items (items_from parts.0)) }
+    ensures order { IfOk result (λ parts. IsOrder (items_if_any items ++ map view more.items) parts.1.items (items_if_any parts.0)) }
 {
     let mut all = match items {
         Some(items) => items,

@@ -4,7 +4,7 @@ ghost use Rattle.toml.specs.View.{table_view};
 ghost use Rattle.note_texts.specs.Outcome.{Gives};
 ghost use Rattle.note_filling.specs.Causes.{HasCause, HasFormFault, forms_of};
 ghost use Rattle.note_filling.specs.Rows.{text_labels};
-ghost use Rattle.note_filling.specs.Views.{Tells, labels_in, names_in, place_in};
+ghost use Rattle.note_filling.specs.Views.{GoesOnOrRefuses, context_labels, context_names, context_place};
 
 use crate::assembling::assembled;
 use crate::context::{Context, Found};
@@ -38,9 +38,9 @@ pub fn check_forms(
     entry: &Name,
     table: Table,
 ) -> Result<(), FillEnd>
-    ensures labels { Tells result (text_labels (names_in context.entry) (labels_in context.entry) (table_view table)) }
-    ensures cause { IfErr result (HasCause (text_labels (names_in context.entry) (labels_in context.entry) (table_view table))
-        (HasFormFault (place_in context.entry) (table_view table))) }
+    ensures labels { GoesOnOrRefuses result (text_labels (context_names context.entry) (context_labels context.entry) (table_view table)) }
+    ensures cause { IfErr result (HasCause (text_labels (context_names context.entry) (context_labels context.entry) (table_view table))
+        (HasFormFault (context_place context.entry) (table_view table))) }
 {
     let found = Found {
         levels: &[],

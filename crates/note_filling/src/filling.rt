@@ -7,7 +7,7 @@ ghost use Rattle.note_filling.specs.Ends.{Checks};
 ghost use Rattle.note_filling.specs.Originals.{AreOrders};
 ghost use Rattle.note_filling.specs.Kept.{AreKept, IsItemKept, IsTextKept};
 ghost use Rattle.note_filling.specs.Rows.{item_labels, items_labels, list_labels, place_keys, text_labels};
-ghost use Rattle.note_filling.specs.Views.{AreFilledLists, IsFilledList, Tells, labels_in, names_in, place_in};
+ghost use Rattle.note_filling.specs.Views.{AreFilledLists, GoesOnOrRefuses, IsFilledList, context_labels, context_names, context_place};
 
 use crate::assembling::{arranged, assembled};
 use crate::context::{Context, Found, More};
@@ -34,8 +34,9 @@ fn filled_value(
     item: usize,
     value: Value,
 ) -> Result<Value, FillEnd>
-    ensures labels { Checks result (item_labels (names_in rows.entry.context) (labels_in rows.entry.context) list item (view value)) }
-    ensures kept { IfOk result (λ v. IsItemKept (place_in rows.entry.context) (place_keys list) (view value) (view v)) }
+    ensures labels { Checks result (item_labels (context_names rows.entry.context) (context_labels rows.entry.context) list item
+        (view value)) }
+    ensures kept { IfOk result (λ v. IsItemKept (context_place rows.entry.context) (place_keys list) (view value) (view v)) }
 {
     match value {
         Value::Table(mut row) => match fill_row(alloc, rows, list, item, &mut row) {
@@ -54,8 +55,9 @@ fn filled_item(
     item: usize,
     value: &Value,
 ) -> Result<Value, FillEnd>
-    ensures labels { Checks result (item_labels (names_in rows.entry.context) (labels_in rows.entry.context) list item (view value.now)) }
-    ensures kept { IfOk result (λ v. IsItemKept (place_in rows.entry.context) (place_keys list) (view value.now) (view v)) }
+    ensures labels { Checks result (item_labels (context_names rows.entry.context) (context_labels rows.entry.context) list item
+        (view value.now)) }
+    ensures kept { IfOk result (λ v. IsItemKept (context_place rows.entry.context) (place_keys list) (view value.now) (view v)) }
 {
     match value.clone() {
         Ok(copy) => filled_value(alloc, rows, list, item, copy),
@@ -70,9 +72,9 @@ fn filled_items(
     list: TableList,
     items: &[Value],
 ) -> Result<Vec<Value>, FillEnd>
-    ensures labels { Checks result (items_labels (names_in rows.entry.context) (labels_in rows.entry.context) list 0
+    ensures labels { Checks result (items_labels (context_names rows.entry.context) (context_labels rows.entry.context) list 0
         (items_view items.now)) }
-    ensures kept { IfOk result (λ values. AreKept (place_in rows.entry.context) list (map view items.now) (map view values.items)) }
+    ensures kept { IfOk result (λ values. AreKept (context_place rows.entry.context) list (map view items.now) (map view values.items)) }
 {
     let mut values = Vec::new(alloc);
     for k in 0..items.len() {
@@ -89,9 +91,9 @@ fn filled_list(
     table: &Table,
     key: &str,
 ) -> Result<Option<Vec<Value>>, FillEnd>
-    ensures labels { Checks result (list_labels (names_in rows.entry.context) (labels_in rows.entry.context) list
+    ensures labels { Checks result (list_labels (context_names rows.entry.context) (context_labels rows.entry.context) list
         (get_member key.now (table_view table.now))) }
-    ensures kept { IfOk result (IsFilledList (place_in rows.entry.context) list (get_member key.now (table_view table.now))) }
+    ensures kept { IfOk result (IsFilledList (context_place rows.entry.context) list (get_member key.now (table_view table.now))) }
 {
     let Some(value) = value_at(table, key) else {
         return Ok(None);
@@ -104,8 +106,9 @@ fn filled_list(
 
 // The lists in whose tables labels may stand, filled.
 fn filled_with(alloc: Global, rows: Rows, table: &Table) -> Result<Lists, FillEnd>
-    ensures labels { Checks result (text_labels (names_in rows.entry.context) (labels_in rows.entry.context) (table_view table.now)) }
-    ensures kept { IfOk result (AreFilledLists (place_in rows.entry.context) (table_view table.now)) }
+    ensures labels { Checks result (text_labels (context_names rows.entry.context) (context_labels rows.entry.context)
+        (table_view table.now)) }
+    ensures kept { IfOk result (AreFilledLists (context_place rows.entry.context) (table_view table.now)) }
 {
     let statics = filled_list(alloc, rows, TableList::Static, table, "static")?;
     let thunks = filled_list(alloc, rows, TableList::Thunk, table, "thunk")?;
@@ -132,8 +135,8 @@ pub(crate) fn filled_lists(
     found: Found,
     table: &Table,
 ) -> Result<Lists, FillEnd>
-    ensures labels { Checks result (text_labels (names_in context.entry) (labels_in context.entry) (table_view table.now)) }
-    ensures kept { IfOk result (AreFilledLists (place_in context.entry) (table_view table.now)) }
+    ensures labels { Checks result (text_labels (context_names context.entry) (context_labels context.entry) (table_view table.now)) }
+    ensures kept { IfOk result (AreFilledLists (context_place context.entry) (table_view table.now)) }
 {
     let known = known_in(alloc, context, table)?;
     let rows = Rows {
@@ -200,14 +203,14 @@ pub fn fill(
     more: More,
     table: Table,
 ) -> Result<Filled, FillEnd>
-    ensures labels { Tells result (text_labels (names_in context.entry) (labels_in context.entry) (table_view table)) }
-    ensures kept { IfOk result (λ filled. IsTextKept (place_in context.entry) (map view more.points.items) (map view more.sites.items)
+    ensures labels { GoesOnOrRefuses result (text_labels (context_names context.entry) (context_labels context.entry) (table_view table)) }
+    ensures kept { IfOk result (λ filled. IsTextKept (context_place context.entry) (map view more.points.items) (map view more.sites.items)
         (table_view table) (table_view filled.table)) }
     ensures shallow { IfOk result (λ filled. members_depth (table_view filled.table) ≤ 80) }
-    ensures orders { IfOk result (λ filled. AreOrders (place_in context.entry) (map view more.points.items) (map view more.sites.items)
+    ensures orders { IfOk result (λ filled. AreOrders (context_place context.entry) (map view more.points.items) (map view more.sites.items)
         filled.functions.items filled.points.items filled.sites.items (table_view table) (table_view filled.table)) }
-    ensures cause { IfErr result (HasCause (text_labels (names_in context.entry) (labels_in context.entry) (table_view table))
-        (IsTooDeep (place_in context.entry) (map view more.points.items) (map view more.sites.items) (table_view table))) }
+    ensures cause { IfErr result (HasCause (text_labels (context_names context.entry) (context_labels context.entry) (table_view table))
+        (IsTooDeep (context_place context.entry) (map view more.points.items) (map view more.sites.items) (table_view table))) }
 {
     let lists = filled_lists(alloc, context, found, &table)?;
     let (arranged_lists, orders) = arranged(alloc, lists, more)?;

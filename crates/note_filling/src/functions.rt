@@ -5,13 +5,13 @@ ghost use Rattle.note_draft.specs.declared.finding.TableList.TheVariants as list
 ghost use Rattle.toml.specs.View.{table_view};
 ghost use Rattle.note_filling.specs.Ends.{Checks};
 ghost use Rattle.note_filling.specs.Kept.{IsRowKept};
-ghost use Rattle.note_filling.specs.Members.{IsExtended, text_in};
-ghost use Rattle.note_filling.specs.Rows.{function_text, label_fault, place_keys, row_labels};
-ghost use Rattle.note_filling.specs.Views.{IsReplaced, labels_in, names_in, place_in};
+ghost use Rattle.note_filling.specs.Members.{IsExtended, text_at_key};
+ghost use Rattle.note_filling.specs.Rows.{label_fault, place_keys, place_naming_text, row_labels};
+ghost use Rattle.note_filling.specs.Views.{IsReplaced, context_labels, context_names, context_place};
 
 use crate::context::Context;
 use crate::end::FillEnd;
-use crate::label::{label_of, placed_by};
+use crate::label::{labelled_place, placed_by};
 use crate::members::{number, number_at, pair, put_missing, put_placed, text_at, value_at};
 use crate::rows::replace_label;
 use crate::table::Rows;
@@ -23,8 +23,8 @@ use std::alloc::{AllocError, Global};
 use toml::{Table, Value};
 
 // The text that names a function's place: that at `place`, or, where this is left out, its name.
-fn function_text(row: &Table) -> Option<&str>
-    ensures { option_map (λ s. s.now) result ≡ function_text (table_view row.now) }
+fn place_naming_text(row: &Table) -> Option<&str>
+    ensures { option_map (λ s. s.now) result ≡ place_naming_text (table_view row.now) }
 {
     match value_at(row, "place") {
         Some(value) => value.as_str(),
@@ -43,7 +43,7 @@ fn named_place(context: Context, text: &str) -> Option<u64> {
 // The place of a function, where it has one.
 fn function_place(context: Context, item: &Value) -> Option<u64> {
     let row = item.as_table()?;
-    match function_text(row) {
+    match place_naming_text(row) {
         Some(text) => named_place(context, text),
         None => number_at(row, "place"),
     }
@@ -79,25 +79,25 @@ fn put_place(
     item: usize,
     row: &mut Table,
 ) -> Result<Option<u64>, FillEnd>
-    ensures labels { Checks result (label_fault (names_in context.entry) (labels_in context.entry) lists.Function keys.Place item
-        (function_text (table_view row.old))) }
-    ensures replaced { OnOk result (IsReplaced (place_in context.entry) (codes "place") (table_view row.old) (table_view row.new)) }
+    ensures labels { Checks result (label_fault (context_names context.entry) (context_labels context.entry) lists.Function keys.Place item
+        (place_naming_text (table_view row.old))) }
+    ensures replaced { OnOk result (IsReplaced (context_place context.entry) (codes "place") (table_view row.old) (table_view row.new)) }
 {
     let finding = Finding {
         list: TableList::Function,
         item,
         key: Key::Place,
     };
-    let placed = label_of(alloc, context, true, finding, function_text(row))?;
+    let placed = labelled_place(alloc, context, true, finding, place_naming_text(row))?;
     put_placed(alloc, row, "place", placed)?;
     Ok(number_at(row, "place"))
 }
 
 // Puts a function's end where a label stands there.
 fn put_end(alloc: Global, context: Context, item: usize, row: &mut Table) -> Result<(), FillEnd>
-    ensures labels { Checks result (label_fault (names_in context.entry) (labels_in context.entry) lists.Function keys.End item
-        (text_in (codes "end") (table_view row.old))) }
-    ensures replaced { OnOk result (IsReplaced (place_in context.entry) (codes "end") (table_view row.old) (table_view row.new)) }
+    ensures labels { Checks result (label_fault (context_names context.entry) (context_labels context.entry) lists.Function keys.End item
+        (text_at_key (codes "end") (table_view row.old))) }
+    ensures replaced { OnOk result (IsReplaced (context_place context.entry) (codes "end") (table_view row.old) (table_view row.new)) }
 {
     let finding = Finding {
         list: TableList::Function,
@@ -181,9 +181,9 @@ pub(crate) fn fill_function(
     item: usize,
     row: &mut Table,
 ) -> Result<(), FillEnd>
-    ensures labels { Checks result (row_labels (names_in rows.entry.context) (labels_in rows.entry.context) lists.Function item
+    ensures labels { Checks result (row_labels (context_names rows.entry.context) (context_labels rows.entry.context) lists.Function item
         (table_view row.old)) }
-    ensures kept { OnOk result (IsRowKept (place_in rows.entry.context) (place_keys lists.Function) (table_view row.old)
+    ensures kept { OnOk result (IsRowKept (context_place rows.entry.context) (place_keys lists.Function) (table_view row.old)
         (table_view row.new)) }
 {
     let place = put_place(alloc, rows.context, item, row)?;

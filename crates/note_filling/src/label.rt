@@ -2,8 +2,8 @@
 ghost use Rattle.std.specs.Prelude.{◌≡◌, ◌<◌, ◌^◌, option_map, IfOk, IfSome, Some};
 ghost use Rattle.note_draft.specs.Findings.{path_of};
 ghost use Rattle.note_filling.specs.Ends.{Gives, IsFlawOf};
-ghost use Rattle.note_filling.specs.Places.{fault_at, flawed, label_of, placed_by, placed_in, told};
-ghost use Rattle.note_filling.specs.Views.{labels_in, names_in};
+ghost use Rattle.note_filling.specs.Places.{fault_at, flawed, found_position, labelled_place, placed_by, placed_in};
+ghost use Rattle.note_filling.specs.Views.{context_labels, context_names};
 
 use crate::context::Context;
 use crate::end::{FillEnd, Flaw};
@@ -48,8 +48,8 @@ impl LabelFault {
 }
 
 // Where a label stands, or why none is meant.
-fn told(found: Result<Position, NotFound>) -> Result<Position, LabelFault>
-    ensures { result ≡ told found }
+fn found_position(found: Result<Position, NotFound>) -> Result<Position, LabelFault>
+    ensures { result ≡ found_position found }
 {
     match found {
         Ok(position) => Ok(position),
@@ -61,13 +61,13 @@ fn told(found: Result<Position, NotFound>) -> Result<Position, LabelFault>
 /// The place that a text names: that of a label, of one in the code where `code` is set.
 #[tactic(auto, unfolding(crate::specs::Places::placed_by))]
 pub(crate) fn placed_by(context: Context, code: bool, text: &str) -> Result<Placed, LabelFault>
-    ensures value { result ≡ placed_by code (names_in context.entry) (labels_in context.entry) text.now }
+    ensures value { result ≡ placed_by code (context_names context.entry) (context_labels context.entry) text.now }
     ensures small { IfOk result (λ p. p.place < 2 ^ 33) }
 {
     let Some(reference) = reference_of(text) else {
         return Err(LabelFault::Form);
     };
-    let position = told(context.labels.find(context.names, &reference))?;
+    let position = found_position(context.labels.find(context.names, &reference))?;
     if code && position.section == 2 {
         return Err(LabelFault::Data);
     }
@@ -104,7 +104,8 @@ fn place_named(
     path: Name,
     text: &str,
 ) -> Result<Placed, FillEnd>
-    ensures gives { Gives result (flawed text.now (placed_in code (names_in context.entry) (labels_in context.entry) path text.now)) }
+    ensures gives { Gives result (flawed text.now (placed_in code (context_names context.entry) (context_labels context.entry) path
+        text.now)) }
     ensures small { IfOk result (λ p. p.place < 2 ^ 33) }
 {
     match placed_by(context, code, text) {
@@ -114,14 +115,14 @@ fn place_named(
 }
 
 /// The place that a text names at a key of a table of a list; none where no text is there.
-pub(crate) fn label_of(
+pub(crate) fn labelled_place(
     alloc: Global,
     context: Context,
     code: bool,
     finding: Finding,
     text: Option<&str>,
 ) -> Result<Option<Placed>, FillEnd>
-    ensures gives { Gives result (label_of code (names_in context.entry) (labels_in context.entry) (path_of finding)
+    ensures gives { Gives result (labelled_place code (context_names context.entry) (context_labels context.entry) (path_of finding)
         (option_map (λ t. t.now) text.entry)) }
     ensures small { IfOk result (λ found. IfSome found (λ p. p.place < 2 ^ 33)) }
 {

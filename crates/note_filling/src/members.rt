@@ -3,7 +3,7 @@ ghost use Rattle.std.specs.Prelude.{◌≡◌, ◌<◌, ◌^◌, option_map, OnO
 ghost use Rattle.toml.specs.Data.{get_member, integer};
 ghost use Rattle.toml.specs.View.{view, table_view};
 ghost use Rattle.note_filling.specs.Views.{put_place};
-ghost use Rattle.note_filling.specs.Members.{IsExtended, put_member, put_missing_member, text_in};
+ghost use Rattle.note_filling.specs.Members.{IsExtended, put_member, put_missing_member, text_at_key};
 
 use crate::label::Placed;
 use ebc_base::NoMemory;
@@ -19,7 +19,7 @@ pub(crate) fn value_at<'a>(table: &'a Table, key: &str) -> Option<&'a Value>
 
 /// The text at a key, where one is there.
 pub fn text_at<'a>(table: &'a Table, key: &str) -> Option<&'a str>
-    ensures { option_map (λ s. s.now) result ≡ text_in key.now (table_view table.now) }
+    ensures { option_map (λ s. s.now) result ≡ text_at_key key.now (table_view table.now) }
 {
     match value_at(table, key) {
         Some(value) => value.as_str(),

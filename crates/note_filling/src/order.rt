@@ -2,7 +2,7 @@
 ghost use Rattle.std.specs.Prelude.{◌≡◌, map, All, IfOk, IsPermutation};
 ghost use Rattle.toml.specs.View.{view};
 ghost use Rattle.note_filling.specs.Originals.{IsOrder, original_path, renumbered};
-ghost use Rattle.note_filling.specs.Views.{Stands};
+ghost use Rattle.note_filling.specs.Views.{StoodAmong};
 
 use crate::members::number_at;
 use ebc_base::{Name, NoMemory};
@@ -29,7 +29,7 @@ fn place_of(item: &Value) -> Option<u64> {
 // The items with their places, those that have none behind all others.
 fn with_places(alloc: Global, items: Vec<Value>) -> Result<Vec<Ranked>, NoMemory>
     ensures values { IfOk result (λ all. map (λ r. view r.value) all.items ≡ map view items.items) }
-    ensures stood { IfOk result (λ all. All (Stands (map view items.items)) all.items) }
+    ensures stood { IfOk result (λ all. All (StoodAmong (map view items.items)) all.items) }
 {
     let mut all = Vec::new(alloc);
     for value in items {

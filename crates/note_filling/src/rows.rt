@@ -5,15 +5,15 @@ ghost use Rattle.note_draft.specs.declared.finding.Key.TheVariants as keys;
 ghost use Rattle.toml.specs.View.{table_view};
 ghost use Rattle.note_filling.specs.Ends.{Checks, Gives};
 ghost use Rattle.note_filling.specs.Kept.{IsRowKept};
-ghost use Rattle.note_filling.specs.Members.{text_in};
-ghost use Rattle.note_filling.specs.Places.{label_of};
+ghost use Rattle.note_filling.specs.Members.{text_at_key};
+ghost use Rattle.note_filling.specs.Places.{labelled_place};
 ghost use Rattle.note_filling.specs.Rows.{is_code, label_fault, place_keys, row_labels};
-ghost use Rattle.note_filling.specs.Views.{IsReplaced, labels_in, names_in, place_in};
+ghost use Rattle.note_filling.specs.Views.{IsReplaced, context_labels, context_names, context_place};
 
 use crate::context::Context;
 use crate::end::FillEnd;
 use crate::functions::fill_function;
-use crate::label::{Placed, label_of};
+use crate::label::{Placed, labelled_place};
 use crate::members::{put_placed, text_at};
 use crate::statics::fill_static;
 use crate::table::Rows;
@@ -30,12 +30,12 @@ pub(crate) fn replace_label(
     key: &str,
     row: &mut Table,
 ) -> Result<Option<Placed>, FillEnd>
-    ensures gives { Gives result (label_of code (names_in context.entry) (labels_in context.entry) (path_of finding)
-        (text_in key.now (table_view row.old))) }
-    ensures replaced { OnOk result (IsReplaced (place_in context.entry) key.now (table_view row.old) (table_view row.new)) }
+    ensures gives { Gives result (labelled_place code (context_names context.entry) (context_labels context.entry) (path_of finding)
+        (text_at_key key.now (table_view row.old))) }
+    ensures replaced { OnOk result (IsReplaced (context_place context.entry) key.now (table_view row.old) (table_view row.new)) }
     ensures small { IfOk result (λ found. IfSome found (λ p. p.place < 2 ^ 33)) }
 {
-    let placed = label_of(alloc, context, code, finding, text_at(row, key))?;
+    let placed = labelled_place(alloc, context, code, finding, text_at(row, key))?;
     put_placed(alloc, row, key, placed)?;
     Ok(placed)
 }
@@ -58,9 +58,9 @@ fn fill_place(
     item: usize,
     row: &mut Table,
 ) -> Result<(), FillEnd>
-    ensures labels { Checks result (label_fault (names_in context.entry) (labels_in context.entry) list keys.Place item
-        (text_in (codes "place") (table_view row.old))) }
-    ensures kept { OnOk result (IsRowKept (place_in context.entry) (codes "place" ∷ []) (table_view row.old) (table_view row.new)) }
+    ensures labels { Checks result (label_fault (context_names context.entry) (context_labels context.entry) list keys.Place item
+        (text_at_key (codes "place") (table_view row.old))) }
+    ensures kept { OnOk result (IsRowKept (context_place context.entry) (codes "place" ∷ []) (table_view row.old) (table_view row.new)) }
 {
     let key = Key::Place;
     let finding = Finding { list, item, key };
@@ -77,9 +77,9 @@ pub(crate) fn fill_row(
     item: usize,
     row: &mut Table,
 ) -> Result<(), FillEnd>
-    ensures labels { Checks result (row_labels (names_in rows.entry.context) (labels_in rows.entry.context) list item
+    ensures labels { Checks result (row_labels (context_names rows.entry.context) (context_labels rows.entry.context) list item
         (table_view row.old)) }
-    ensures kept { OnOk result (IsRowKept (place_in rows.entry.context) (place_keys list) (table_view row.old) (table_view row.new)) }
+    ensures kept { OnOk result (IsRowKept (context_place rows.entry.context) (place_keys list) (table_view row.old) (table_view row.new)) }
 {
     match list {
         TableList::Static => fill_static(alloc, rows, item, row),

@@ -5,9 +5,9 @@ ghost use Rattle.note_draft.specs.declared.finding.TableList.TheVariants as list
 ghost use Rattle.toml.specs.View.{table_view};
 ghost use Rattle.note_filling.specs.Ends.{Checks};
 ghost use Rattle.note_filling.specs.Kept.{IsRowKept};
-ghost use Rattle.note_filling.specs.Members.{text_in};
+ghost use Rattle.note_filling.specs.Members.{text_at_key};
 ghost use Rattle.note_filling.specs.Rows.{label_fault};
-ghost use Rattle.note_filling.specs.Views.{labels_in, names_in, place_in};
+ghost use Rattle.note_filling.specs.Views.{context_labels, context_names, context_place};
 
 use crate::end::FillEnd;
 use crate::label::Placed;
@@ -40,9 +40,10 @@ pub(crate) fn fill_static(
     item: usize,
     row: &mut Table,
 ) -> Result<(), FillEnd>
-    ensures labels { Checks result (label_fault (names_in rows.entry.context) (labels_in rows.entry.context) lists.Static keys.Place item
-        (text_in (codes "place") (table_view row.old))) }
-    ensures kept { OnOk result (IsRowKept (place_in rows.entry.context) (codes "place" ∷ []) (table_view row.old) (table_view row.new)) }
+    ensures labels { Checks result (label_fault (context_names rows.entry.context) (context_labels rows.entry.context) lists.Static
+        keys.Place item (text_at_key (codes "place") (table_view row.old))) }
+    ensures kept { OnOk result (IsRowKept (context_place rows.entry.context) (codes "place" ∷ [])
+        (table_view row.old) (table_view row.new)) }
 {
     let finding = Finding {
         list: TableList::Static,

@@ -48,8 +48,8 @@ pub use Rattle.point_laws.specs.PointTables.{item_draft, members_in, members_of,
 pub use Rattle.point_laws.specs.PrintedPoints.{IsReading, with_printed}
 pub use Rattle.point_laws.specs.PrintedPoints.{PrintedPointsAreAccepted, PrintedPointsAreRead, PrintedPointsAreTables, PrintedPointsStand}
 pub use Rattle.printed_texts.proofs.PrintedTypeLaws.{below_are, has, type_spelled}
-pub use Rattle.printed_texts.specs.PrintedStates.{array_line, in_quotes, is_left_out, item_text, item_texts, register_text, register_texts}
-pub use Rattle.printed_texts.specs.PrintedStates.{listed}
+pub use Rattle.printed_texts.specs.PrintedStates.{array_line, in_quotes, is_left_out, item_text, item_texts, register_type_text}
+pub use Rattle.printed_texts.specs.PrintedStates.{register_texts, comma_list}
 pub use Rattle.printed_texts.specs.PrintedTypes.{field_name, field_names, method_name, shape_name}
 pub use Rattle.printed_texts.specs.NamedTypes.{HaveNames}
 pub use Rattle.protocol_script.proofs.ReadLaws.{read_names}

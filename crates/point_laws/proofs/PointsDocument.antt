@@ -2,7 +2,8 @@
 use Rattle.point_laws.proofs.Common.{AllByRecursion, define, document_some, item_join-none, item_join-push, list_all-append, parse_document}
 use Rattle.point_laws.proofs.Common.{AllPrinted, and_parts, append_assoc, array_table, Expression, IsAscii-cons, IsAscii-nil, skip_from-nil}
 use Rattle.point_laws.proofs.Common.{ap, suc, sym, ℕ, ◌<◌, ◌^◌, ◌∙◌, ◌∷◌, ◌≡◌}
-use Rattle.point_laws.proofs.Common.{arith, Bool, decimal, integer, IsAscii, Items, length, listed, member, Members, nat_lt, Nodes, strings}
+use Rattle.point_laws.proofs.Common.{arith, Bool, decimal, integer, IsAscii, Items, length}
+use Rattle.point_laws.proofs.Common.{comma_list, member, Members, nat_lt, Nodes, strings}
 use Rattle.point_laws.proofs.Common.{array, close, codes, false, List, map, node, pos, refl, run, Some, subst, table, true, value, [], ◌++◌}
 use Rattle.point_laws.proofs.Common.{array_line, in_quotes, IsLineText, item_join, key_value, lines_end, members_of, no_members, open_array}
 use Rattle.point_laws.proofs.Common.{Document, flat_map, key_text, list_all, ltb-true, nat_tests, no_items, no_nodes, push_item, tables_of}
@@ -184,7 +185,7 @@ others_low : (ts : List (List ℕ)) → AllPlain ts → list_all is_low (flat_ma
 others_low [] h = refl
 others_low (t ∷ ts) h = simp (list_all-append, plain_low t h.0, others_low ts h.1)
 
-listed_low : (ts : List (List ℕ)) → AllPlain ts → list_all is_low (listed (map in_quotes ts)) ≡ true
+listed_low : (ts : List (List ℕ)) → AllPlain ts → list_all is_low (comma_list (map in_quotes ts)) ≡ true
 listed_low [] h = refl
 listed_low (t ∷ ts) h = simp (list_all-append, plain_low t h.0, others_low ts h.1)
 

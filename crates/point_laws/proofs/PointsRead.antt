@@ -5,7 +5,8 @@ use Rattle.point_laws.proofs.Common.{AreNames, array_at, bytes_eq, count_by, doc
 use Rattle.point_laws.proofs.Common.{arith, array, codes, cond, count, Each, Fact, false, IfOk, Item, known, List, None, Some, subst, table}
 use Rattle.point_laws.proofs.Common.{below_are, each_none, fields_at, fields_of, FieldText, has_field, HaveNames, IsReading, Ok, told_up_to}
 use Rattle.point_laws.proofs.Common.{Bool, field_name, item_draft, item_texts, NameTables, NotesDraft, ShapeDraft, some_of_map, sum_by-cons}
-use Rattle.point_laws.proofs.Common.{count_beside, FunctionDraft, locals_fields, option_map_or, point_members, register_text, slice_get-map}
+use Rattle.point_laws.proofs.Common.{count_beside, FunctionDraft, locals_fields, option_map_or}
+use Rattle.point_laws.proofs.Common.{point_members, register_type_text, slice_get-map}
 use Rattle.point_laws.proofs.Common.{each_map, flat_map, has_text, notes_in, notes_of, ok_given, owner_of, point_of, resolved, state_of, Ty}
 use Rattle.point_laws.proofs.Common.{Field, filter, le-leb, length, lt-ltb, member, nat_le, Notes, Option, Point, Shape, State, strings, []}
 use Rattle.point_laws.proofs.Common.{field_names, flat_map-map, function_at, IsAscii, IsPointNote, local_fields, point_locals, shape_fields}
@@ -266,10 +267,10 @@ module _ (d : NotesDraft) (t : NameTables) (p : Point) (n : IsPointNote (resolve
   unfolding point_of point_made only_keys
   table_again prefix =
       let told = told_short p.state 7 in
-      let long = length-map (told_up_to p.state 7) (register_text (resolved t d) fields p.state) in
+      let long = length-map (told_up_to p.state 7) (register_type_text (resolved t d) fields p.state) in
       let short = names_short fields p.state.written 64 in
       let ms = members_in (resolved t d) fields p in
-      let regs = texts_again register_of (register_text (resolved t d) fields p.state) (register_draft (resolved t d) fields p.state)
+      let regs = texts_again register_of (register_type_text (resolved t d) fields p.state) (register_draft (resolved t d) fields p.state)
       (prefix ++ codes "regs") (told_up_to p.state 7) (reading.registers_read (resolved t d) n.owner h p.state n.state) in
       let stack = texts_again item_of (item_text (resolved t d) fields) (item_draft (resolved t d) fields) (prefix ++ codes "stack")
       p.state.items (reading.items_read (resolved t d) n.owner h p.state.items items_known) in

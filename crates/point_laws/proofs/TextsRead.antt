@@ -4,7 +4,8 @@ use Rattle.point_laws.proofs.Common.{ap, Ok, [], ◌∙◌, ◌∷◌, ◌≡◌
 use Rattle.point_laws.proofs.Common.{AreNames, get_member, HaveNames, item_draft, item_texts, named_type, row_prefix, told_up_to, TomlFault}
 use Rattle.point_laws.proofs.Common.{arith, array, codes, count, each, List, pos, refl, row_of, Slot, Some, State, subst, true, ◌++◌, ◌+◌}
 use Rattle.point_laws.proofs.Common.{array_at, item_read, item_text, kind_text, Notes, number_at, SlotKind, tables_at, tables_of, type_text}
-use Rattle.point_laws.proofs.Common.{count_beside, is_left_out, Item, local_fields, register_of, register_read, register_text, type_spelled}
+use Rattle.point_laws.proofs.Common.{count_beside, is_left_out, Item, local_fields}
+use Rattle.point_laws.proofs.Common.{register_of, register_read, register_type_text, type_spelled}
 use Rattle.point_laws.proofs.Common.{decimal, integer, IsKnown, IsState, item_of, list_at, Members, name_of, rows_of, texts_at, texts_of, ℕ}
 use Rattle.point_laws.proofs.Common.{FnNote, IsName, le-leb, length, Locals, map-id, nat_le, not, Option, Result, strings, text_of, type_of}
 use Rattle.point_laws.proofs.NoneAgain.{all_kept, all_map, all_range, each_of}
@@ -29,13 +30,14 @@ module _ (notes : Notes) (f : FnNote) (h : HaveNames notes (local_fields notes f
   -- ---- registers
 
   register_again : (s : State) → IsState notes f s → (r : ℕ) → 1 ≤ r → r ≤ 7
-      → slots.register_of (register_text notes (local_fields notes f) s r) ≡ Some (register_draft notes (local_fields notes f) s r)
+      → slots.register_of (register_type_text notes (local_fields notes f) s r) ≡ Some (register_draft notes (local_fields notes f) s r)
   register_again s k r low high =
-      let text = register_text notes (local_fields notes f) s r in
+      let text = register_type_text notes (local_fields notes f) s r in
       (register_read text (slots.register_of text) refl (register_draft notes (local_fields notes f) s r)).1
       (type_text notes (local_fields notes f) (type_of s r), refl, low, high, type_spelled notes f h (type_of s r) (k.registers r))
 
-  register_plain : (s : State) → IsState notes f s → (r : ℕ) → r ≤ 7 → are_plain (register_text notes (local_fields notes f) s r) ≡ true
+  register_plain : (s : State) → IsState notes f s → (r : ℕ) → r ≤ 7
+      → are_plain (register_type_text notes (local_fields notes f) s r) ≡ true
   register_plain s k r high =
       let t = type_text notes (local_fields notes f) (type_of s r) in
       plain-append (codes "R" ++ decimal r) (codes " " ++ t) (decimal_plain r (omega arith))
@@ -48,16 +50,16 @@ module _ (notes : Notes) (f : FnNote) (h : HaveNames notes (local_fields notes f
       (all_range (λ r. not (is_left_out r (type_of s r)) ≡ true → P r) 1 7 (λ r low high e. h r low (omega arith)))
 
   pub registers_read : (s : State) → IsState notes f s
-      → AllRead slots.register_of (register_text notes (local_fields notes f) s) (register_draft notes (local_fields notes f) s)
+      → AllRead slots.register_of (register_type_text notes (local_fields notes f) s) (register_draft notes (local_fields notes f) s)
       (told_up_to s 7)
   registers_read s k =
-      told_all s (λ r. slots.register_of (register_text notes (local_fields notes f) s r) ≡ Some
+      told_all s (λ r. slots.register_of (register_type_text notes (local_fields notes f) s r) ≡ Some
       (register_draft notes (local_fields notes f) s r)) (register_again s k)
 
   pub registers_plain : (s : State) → IsState notes f s → AllPlain (register_texts notes (local_fields notes f) s)
   registers_plain s k =
-      all_map (λ t. are_plain t ≡ true) (register_text notes (local_fields notes f) s) (told_up_to s 7)
-      (told_all s (λ r. are_plain (register_text notes (local_fields notes f) s r) ≡ true) (λ r low high. register_plain s k r high))
+      all_map (λ t. are_plain t ≡ true) (register_type_text notes (local_fields notes f) s) (told_up_to s 7)
+      (told_all s (λ r. are_plain (register_type_text notes (local_fields notes f) s r) ≡ true) (λ r low high. register_plain s k r high))
 
   -- ---- items
 

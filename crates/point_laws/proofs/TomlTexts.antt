@@ -6,7 +6,8 @@ use Rattle.point_laws.proofs.Common.{append_assoc, breaks_lines, continues_name,
 use Rattle.point_laws.proofs.Common.{arith, array, codes, false, inr, item, Items, line, lines, None, refl, Some, true, ℕ, ◌&&◌, ◌++◌, ◌==◌}
 use Rattle.point_laws.proofs.Common.{array_line, is_control, IsCounted, IsLineText, IsTypeText, IsUnits, lines_more, range_text, skip_blank}
 use Rattle.point_laws.proofs.Common.{CellText, decimal, Document, flat_map, integer, key_text, List, list_all, list_any, no_items, TypeText}
-use Rattle.point_laws.proofs.Common.{define, inl, is_name, IsName, IsNear, length, listed, mark_of, nat_le, negsuc, Option, strings, ⊎_elim}
+use Rattle.point_laws.proofs.Common.{define, inl, is_name, IsName, IsNear, length, comma_list}
+use Rattle.point_laws.proofs.Common.{mark_of, nat_le, negsuc, Option, strings, ⊎_elim}
 use Rattle.point_laws.proofs.Common.{Expression, grants_text, IsCellText, IsItemsText, IsValueText, items_depth, skip_newline, skip_within}
 use Rattle.point_laws.proofs.NoneAgain.{all_so}
 use Rattle.toml_writer.specs.Text.{encoding_of, escaped, needs_escape, quotes_after, string_text}
@@ -183,7 +184,7 @@ others_spelled (t ∷ ts) h = (
   others_spelled ts h.1,
 )
 
-items_spelled : (ts : List (List ℕ)) → AllPlain ts → IsItemsText false false true (strings ts) (listed (map in_quotes ts) ++ codes "]")
+items_spelled : (ts : List (List ℕ)) → AllPlain ts → IsItemsText false false true (strings ts) (comma_list (map in_quotes ts) ++ codes "]")
 unfolding others
 items_spelled [] h = refl
 items_spelled (t ∷ ts) h = (
@@ -195,8 +196,8 @@ items_spelled (t ∷ ts) h = (
 )
 
 array_spelled : (ts : List (List ℕ)) → AllPlain ts
-    → IsValueText false (array (strings ts)) (codes "[" ++ (listed (map in_quotes ts) ++ codes "]"))
-array_spelled ts h = (listed (map in_quotes ts) ++ codes "]", refl, rw (no_breaks (strings ts)) (items_spelled ts h))
+    → IsValueText false (array (strings ts)) (codes "[" ++ (comma_list (map in_quotes ts) ++ codes "]"))
+array_spelled ts h = (comma_list (map in_quotes ts) ++ codes "]", refl, rw (no_breaks (strings ts)) (items_spelled ts h))
 
 -- ---- lines
 
@@ -204,7 +205,7 @@ array_spelled ts h = (listed (map in_quotes ts) ++ codes "]", refl, rw (no_break
 pub array_line_spelled : (key : List ℕ) (ts : List (List ℕ)) → key_text key ≡ key → AllPlain ts
     → IsLineText false false ([], key) (key_value (array (strings ts))) (array_line key ts)
 array_line_spelled key ts bare_key h =
-    let list = listed (map in_quotes ts) in
+    let list = comma_list (map in_quotes ts) in
     let whole = ap (λ t. key ++ (codes " = [" ++ t)) (sym (append_assoc list (codes "]") (10 ∷ []))) in (
       codes "[" ++ (list ++ codes "]"),
       whole ∙ ap (λ k. k ++ (codes " = " ++ ((codes "[" ++ (list ++ codes "]")) ++ 10 ∷ []))) (sym bare_key),

@@ -9,7 +9,7 @@ use Rattle.note_types.specs.declared.notes.Notes.{Notes}
 use Rattle.note_types.specs.declared.shape.Field.{Field}
 use Rattle.note_types.specs.declared.state.State.{State}
 use Rattle.rules_base.specs.Places.{has_field}
-use Rattle.printed_texts.specs.PrintedStates.{is_left_out, register_text, told_up_to}
+use Rattle.printed_texts.specs.PrintedStates.{is_left_out, register_type_text, told_up_to}
 use Rattle.printed_texts.specs.PrintedTypes.{field_name, names_below}
 use Rattle.printed_texts.proofs.RangeLaws.{range_more}
 
@@ -40,14 +40,14 @@ unfolding names_below
 names_more fields set n = kept_more (field_name fields) (has_field set) 0 n n (omega arith)
 
 -- no register
-pub told_none : (notes : Notes) (fields : List Field) (s : State) → map (register_text notes fields s) (told_up_to s 0) ≡ []
+pub told_none : (notes : Notes) (fields : List Field) (s : State) → map (register_type_text notes fields s) (told_up_to s 0) ≡ []
 unfolding told_up_to
 told_none notes fields s = refl
 
 -- one register more
 pub told_more : (notes : Notes) (fields : List Field) (s : State) (n : ℕ)
-    → map (register_text notes fields s) (told_up_to s (n + 1)) ≡ map (register_text notes fields s) (told_up_to s n)
-    ++ cond (not (is_left_out (n + 1) (type_of s (n + 1)))) (register_text notes fields s (n + 1) ∷ []) []
+    → map (register_type_text notes fields s) (told_up_to s (n + 1)) ≡ map (register_type_text notes fields s) (told_up_to s n)
+    ++ cond (not (is_left_out (n + 1) (type_of s (n + 1)))) (register_type_text notes fields s (n + 1) ∷ []) []
 unfolding told_up_to
 told_more notes fields s n =
-    kept_more (register_text notes fields s) (λ r. not (is_left_out r (type_of s r))) 1 n (n + 1) (omega arith)
+    kept_more (register_type_text notes fields s) (λ r. not (is_left_out r (type_of s r))) 1 n (n + 1) (omega arith)

@@ -26,7 +26,7 @@ use Rattle.note_texts.specs.TypeTexts.{granting_type, int_of, marked_type, numbe
 use Rattle.note_texts.specs.TypeTexts.{word_type}
 use Rattle.printed_texts.specs.NamedTypes.{named_cell, named_type}
 use Rattle.printed_texts.specs.PrintedStates.{fields_at, point_text, points_text, state_text, told_up_to}
-use Rattle.printed_texts.specs.PrintedTypes.{cell_text, divisor_text, int_text, is_whole, names_below, offset_text, type_text}
+use Rattle.printed_texts.specs.PrintedTypes.{cell_text, divisor_text, int_text, is_every_number, names_below, offset_text, type_text}
 
 -- ---- the driver's notes, and a second local
 
@@ -77,17 +77,17 @@ unfolding type_text named_type type_of parts_at word_type plain_type
 any = (refl, refl)
 
 all_numbers : Row (codes "int") (ty.Int 0 (2 ^ 64 - 1) 1)
-unfolding type_text int_text is_whole named_type type_of parts_at word_type plain_type
+unfolding type_text int_text is_every_number named_type type_of parts_at word_type plain_type
 all_numbers = (refl, refl)
 
 numbers : Row (codes "int:0..100") (ty.Int 0 100 1)
-unfolding type_text int_text is_whole divisor_text digits named_type type_of parts_at split_at marked_type number_type int_of range_of
-    number_of number_from
+unfolding type_text int_text is_every_number divisor_text digits named_type type_of parts_at split_at marked_type number_type int_of
+    range_of number_of number_from
 numbers = (refl, refl)
 
 divided_numbers : Row (codes "int:0..18446744073709551615/8") (ty.Int 0 (2 ^ 64 - 1) 8)
-unfolding type_text int_text is_whole divisor_text digits named_type type_of parts_at split_at marked_type number_type int_of range_of
-    number_of number_from
+unfolding type_text int_text is_every_number divisor_text digits named_type type_of parts_at split_at marked_type number_type int_of
+    range_of number_of number_from
 divided_numbers = (refl, refl)
 
 natural_units : Row (codes "lin:1,0") (ty.Lin (pos 1) (pos 0))

@@ -29,9 +29,8 @@ use Rattle.note_texts.specs.declared.ty.TypeText.TheVariants as types
 use Rattle.note_texts.proofs.TypeLaws.{type_of-complete}
 use Rattle.rules_base.specs.Places.{has_field}
 use Rattle.printed_texts.specs.NamedTypes.{HaveNames, PrintedTypesAreRead, named_cell, named_type}
-use Rattle.printed_texts.specs.PrintedTypes.{cell_text, counted_text, divisor_text, field_name, int_text, is_whole, names_below}
-use Rattle.printed_texts.specs.PrintedTypes.{offset_text, shape_name}
-use Rattle.printed_texts.specs.PrintedTypes.{type_text}
+use Rattle.printed_texts.specs.PrintedTypes.{cell_text, counted_text, divisor_text, field_name, int_text, is_every_number, names_below}
+use Rattle.printed_texts.specs.PrintedTypes.{offset_text, shape_name, type_text}
 
 -- ---- names
 
@@ -103,10 +102,10 @@ divided_by lo hi div true order high some few one =
 divided_by lo hi div false order high some few one =
     inr (range_text lo hi ++ (codes "/" ++ decimal div), refl, (order, high, some, few, inr refl))
 
-whole_by : (lo hi div : ℕ) (b : Bool) → lo ≤ hi → hi < 2 ^ 64 → 1 ≤ div → div < 2 ^ 64 → (b ≡ true → is_whole lo hi div ≡ true)
+whole_by : (lo hi div : ℕ) (b : Bool) → lo ≤ hi → hi < 2 ^ 64 → 1 ≤ div → div < 2 ^ 64 → (b ≡ true → is_every_number lo hi div ≡ true)
     → IsTypeText (cond b (codes "int") (codes "int:" ++ (range_text lo hi ++ cond (div == 1) [] (codes "/" ++ decimal div))))
     (types.Int lo hi div)
-unfolding is_whole
+unfolding is_every_number
 whole_by lo hi div true order high some few all =
     let first = and_parts (lo == 0) (hi == 2 ^ 64 - 1 && div == 1) (all refl) in
     let second = and_parts (hi == 2 ^ 64 - 1) (div == 1) first.1 in
@@ -115,7 +114,7 @@ whole_by lo hi div false order high some few all = divided_by lo hi div (div == 
 
 int_spelled : (lo hi div : ℕ) → lo ≤ hi → hi < 2 ^ 64 → 1 ≤ div → div < 2 ^ 64 → IsTypeText (int_text lo hi div) (types.Int lo hi div)
 unfolding int_text divisor_text
-int_spelled lo hi div order high some few = whole_by lo hi div (is_whole lo hi div) order high some few (λ e. e)
+int_spelled lo hi div order high some few = whole_by lo hi div (is_every_number lo hi div) order high some few (λ e. e)
 
 -- ---- offsets
 

@@ -3,7 +3,7 @@ use Rattle.std.proofs.Common.{◌≡◌, ℕ, ◌+◌, ◌-◌, ◌*◌, ◌/◌
 use Rattle.std.proofs.Math.Nat.{mul-suc, suc-mul}
 use Rattle.std.proofs.lemmas.List.Sums.{sum_by-cons}
 use Rattle.std.specs.List.{range_with_len}
-use Rattle.printed_texts.specs.Samples.{value_of}
+use Rattle.printed_texts.specs.Samples.{sample_result}
 
 -- one number before n
 step : (a n s p x : ℕ) → 2 * s + n ≡ p + n → x ≡ a + a + suc n → 2 * (a + s) + suc n ≡ p + x
@@ -24,7 +24,7 @@ half_of : (s m p : ℕ) → 2 * s + m ≡ p + m → p / 2 ≡ s
 half_of s m p whole = omega arith
 
 -- the sum of the numbers from k to n - 1 is half their number times the sum of the first and the last
-pub half : (n k : ℕ) → k < n → (n - k) * (k + (n - 1)) / 2 ≡ value_of n k
+pub half : (n k : ℕ) → k < n → (n - k) * (k + (n - 1)) / 2 ≡ sample_result n k
 half n k below =
     let ends : k + k + (n - k) ≡ suc (k + (n - 1)) = omega arith in
     half_of (sum (range_with_len k (n - k))) (n - k) ((n - k) * (k + (n - 1)))

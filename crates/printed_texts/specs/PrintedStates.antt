@@ -31,8 +31,8 @@ is_left_out r ty.Any = nat_lt 3 r
 is_left_out r _ = false
 
 -- REGISTER
-abbrev pub register_text : Notes → List Field → State → ℕ → List ℕ
-register_text notes fields s r = codes "R" ++ (decimal r ++ (codes " " ++ type_text notes fields (type_of s r)))
+abbrev pub register_type_text : Notes → List Field → State → ℕ → List ℕ
+register_type_text notes fields s r = codes "R" ++ (decimal r ++ (codes " " ++ type_text notes fields (type_of s r)))
 
 -- R1 to Rn, but those that are left out
 unfoldable pub told_up_to : State → ℕ → List ℕ
@@ -40,7 +40,7 @@ told_up_to s n = filter (λ r. not (is_left_out r (type_of s r))) (range_with_le
 
 -- R1 to R7, but those that are left out
 abbrev pub register_texts : Notes → List Field → State → List (List ℕ)
-register_texts notes fields s = map (register_text notes fields s) (told_up_to s 7)
+register_texts notes fields s = map (register_type_text notes fields s) (told_up_to s 7)
 
 -- ITEM
 abbrev pub item_text : Notes → List Field → Item → List ℕ
@@ -54,8 +54,8 @@ item_texts notes fields items = map (item_text notes fields) items
 -- ---- lists on a line
 
 -- texts one after the other, `, ` between two
-abbrev pub listed : List (List ℕ) → List ℕ
-listed texts = join_by (λ t. t) (codes ", ") texts
+abbrev pub comma_list : List (List ℕ) → List ℕ
+comma_list texts = join_by (λ t. t) (codes ", ") texts
 
 -- a text in quotes
 abbrev pub in_quotes : List ℕ → List ℕ
@@ -63,18 +63,18 @@ in_quotes text = codes "\"" ++ (text ++ codes "\"")
 
 -- the list at a key of a table
 abbrev pub array_line : List ℕ → List (List ℕ) → List ℕ
-array_line key texts = key ++ (codes " = [" ++ (listed (map in_quotes texts) ++ codes "]\n"))
+array_line key texts = key ++ (codes " = [" ++ (comma_list (map in_quotes texts) ++ codes "]\n"))
 
 -- a word and the texts behind it; the word alone where there are none
 abbrev pub item_line : List ℕ → List (List ℕ) → List ℕ
 item_line word [] = word ++ codes "\n"
-item_line word (t ∷ ts) = word ++ (codes " " ++ (listed (t ∷ ts) ++ codes "\n"))
+item_line word (t ∷ ts) = word ++ (codes " " ++ (comma_list (t ∷ ts) ++ codes "\n"))
 
 -- ---- states
 
 -- the lines of a state, whose fields are these
-abbrev pub state_lines : Notes → List Field → State → List ℕ
-state_lines notes fields s =
+abbrev pub typing_state_lines : Notes → List Field → State → List ℕ
+typing_state_lines notes fields s =
     item_line (codes "regs") (register_texts notes fields s)
     ++ (item_line (codes "stack") (item_texts notes fields s.items)
     ++ (item_line (codes "written") (field_names fields s.written)
@@ -82,7 +82,7 @@ state_lines notes fields s =
 
 -- the lines of a state at a place
 abbrev pub state_text : Notes → ℕ → State → List ℕ
-state_text notes place s = state_lines notes (fields_at notes place) s
+state_text notes place s = typing_state_lines notes (fields_at notes place) s
 
 -- ---- points
 

@@ -63,8 +63,8 @@ unfoldable pub divisor_text : ℕ → List ℕ
 divisor_text div = if div == 1 then [] else codes "/" ++ decimal div
 
 -- all 64-bit numbers
-unfoldable pub is_whole : ℕ → ℕ → ℕ → Bool
-is_whole lo hi div = lo == 0 && (hi == 2 ^ 64 - 1 && div == 1)
+unfoldable pub is_every_number : ℕ → ℕ → ℕ → Bool
+is_every_number lo hi div = lo == 0 && (hi == 2 ^ 64 - 1 && div == 1)
 
 -- `int:LO..HI/DIV`
 abbrev pub ranged_text : ℕ → ℕ → ℕ → List ℕ
@@ -72,7 +72,7 @@ ranged_text lo hi div = codes "int:" ++ (range_text lo hi ++ divisor_text div)
 
 -- the same, or `int` for all 64-bit numbers
 unfoldable pub int_text : ℕ → ℕ → ℕ → List ℕ
-int_text lo hi div = if is_whole lo hi div then codes "int" else ranged_text lo hi div
+int_text lo hi div = if is_every_number lo hi div then codes "int" else ranged_text lo hi div
 
 -- `+N,C`, or nothing for (0, 0)
 unfoldable pub offset_text : ℤ → ℤ → List ℕ

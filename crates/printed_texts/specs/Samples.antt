@@ -32,20 +32,20 @@ source_text n = codes ".global f0\n" ++ flat_map (function_source n) (range_with
 -- ---- the notes
 
 -- where the code of function k begins: that of the image begins at 4096, and each function but the last has 14 bytes
-abbrev pub place_of : ℕ → ℕ
-place_of k = 4096 + 14 * k
+abbrev pub sample_place : ℕ → ℕ
+sample_place k = 4096 + 14 * k
 
 -- where it ends, of n functions: the last has 6 bytes
-abbrev pub end_of : ℕ → ℕ → ℕ
-end_of n k = place_of k + (if nat_eq (k + 1) n then 6 else 14)
+abbrev pub sample_end : ℕ → ℕ → ℕ
+sample_end n k = sample_place k + (if nat_eq (k + 1) n then 6 else 14)
 
 -- how many calls deep it goes
 abbrev pub level_of : ℕ → ℕ → ℕ
 level_of n k = n - 1 - k
 
 -- what it returns: the sum of the numbers from k to n - 1
-abbrev pub value_of : ℕ → ℕ → ℕ
-value_of n k = sum (range_with_len k (n - k))
+abbrev pub sample_result : ℕ → ℕ → ℕ
+sample_result n k = sum (range_with_len k (n - k))
 
 -- the first lines of the table of function k: its name, and where its code begins and ends
 unfoldable pub place_lines : ℕ → ℕ → ℕ → List ℕ
@@ -61,7 +61,7 @@ call_lines level value =
 
 -- the table of function k, of n
 abbrev pub function_notes : ℕ → ℕ → List ℕ
-function_notes n k = place_lines k (place_of k) (end_of n k) ++ call_lines (level_of n k) (value_of n k)
+function_notes n k = place_lines k (sample_place k) (sample_end n k) ++ call_lines (level_of n k) (sample_result n k)
 
 -- the notes of a sample of n functions
 abbrev pub notes_text : ℕ → List ℕ
@@ -93,13 +93,13 @@ ending_number (Finished v) = value_number v
 ending_number ending = None
 
 -- a number, or a dash where there is none
-abbrev pub number_text : Option ℕ → List ℕ
-number_text (Some n) = decimal n
-number_text None = codes "-"
+abbrev pub number_or_dash : Option ℕ → List ℕ
+number_or_dash (Some n) = decimal n
+number_or_dash None = codes "-"
 
 -- the line of a sample of n functions: how many bytes of code it has, the number with which its run at 4 bytes an address finished
 -- and the steps of that run, the line of its check without the line feed, and the last line of its run at both widths
 abbrev pub sample_line : ℕ → ℕ → Option ℕ → ℕ → List ℕ → List ℕ → List ℕ
 sample_line n code number steps verdict last =
-    codes "sample " ++ (decimal n ++ (codes " code " ++ (decimal code ++ (codes " result " ++ (number_text number
+    codes "sample " ++ (decimal n ++ (codes " code " ++ (decimal code ++ (codes " result " ++ (number_or_dash number
     ++ (codes " steps " ++ (decimal steps ++ (codes " " ++ (verdict ++ (codes " " ++ last))))))))))

@@ -1,6 +1,6 @@
 //! The line of a sample.
 ghost use Rattle.std.specs.Prelude.{◌≡◌, IfOk, Some};
-ghost use Rattle.printed_texts.specs.Samples.{ending_number, number_text, sample_line, value_number};
+ghost use Rattle.printed_texts.specs.Samples.{ending_number, number_or_dash, sample_line, value_number};
 
 use ebc_base::NoMemory;
 use note_types::{Ending, Value};
@@ -34,7 +34,7 @@ fn ending_number(ending: Ending) -> Option<u64>
 struct ShownNumber(Option<u64>);
 
 impl fmt::Display for ShownNumber {
-    ghost output = { λ n. Some (number_text n.0) };
+    ghost output = { λ n. Some (number_or_dash n.0) };
 
     fn fmt<W: fmt::Write>(&self, f: &mut fmt::Formatter<W>) -> fmt::Result {
         match self.0 {

@@ -1,7 +1,7 @@
 //! Lists of small texts, on a line.
 ghost use Rattle.std.specs.Prelude.{◌≡◌, ◌++◌, IfOk, codes, map, string_bytes};
 ghost use Rattle.std.specs.List.{flat_map};
-ghost use Rattle.printed_texts.specs.PrintedStates.{array_line, in_quotes, item_line, listed};
+ghost use Rattle.printed_texts.specs.PrintedStates.{array_line, comma_list, in_quotes, item_line};
 
 use note_types::{Name, Names, NoMemory};
 use std::alloc::{AllocError, Global};
@@ -19,8 +19,8 @@ fn listed_from(alloc: Global, first: &str, rest: &[Name]) -> Result<String, Allo
 }
 
 // Texts one after the other, `, ` between two.
-fn listed(alloc: Global, texts: &[Name]) -> Result<String, AllocError>
-    ensures { IfOk result (λ text. string_bytes text ≡ listed texts.now) }
+fn comma_list(alloc: Global, texts: &[Name]) -> Result<String, AllocError>
+    ensures { IfOk result (λ text. string_bytes text ≡ comma_list texts.now) }
 {
     match texts {
         [] => Ok(String::new(alloc)),
@@ -49,7 +49,7 @@ pub(crate) fn array_line(alloc: Global, key: &str, texts: &[Name]) -> Result<Str
     ensures { IfOk result (λ line. string_bytes line ≡ array_line key.now texts.now) }
 {
     let quoted = quoted_each(alloc, texts)?;
-    let list = listed(alloc, quoted.as_slice())?;
+    let list = comma_list(alloc, quoted.as_slice())?;
     Ok(format!(in alloc; "{key} = [{list}]\n")?)
 }
 

@@ -1,34 +1,34 @@
 //! The notes of a sample.
 ghost use Rattle.std.specs.Prelude.{◌≡◌, ◌<◌, ◌≤◌, IfOk, string_bytes};
-ghost use Rattle.printed_texts.specs.Samples.{call_lines, end_of, function_notes, notes_text, place_lines, place_of, value_of};
+ghost use Rattle.printed_texts.specs.Samples.{call_lines, function_notes, notes_text, place_lines, sample_end, sample_place, sample_result};
 
 use ebc_base::NoMemory;
 use std::alloc::{AllocError, Global};
 
 // Where the code of a function begins.
-fn place_of(number: u32) -> u32
+fn sample_place(number: u32) -> u32
     requires { number < 4096 }
-    ensures { result ≡ place_of number }
+    ensures { result ≡ sample_place number }
 {
     4096 + 14 * number
 }
 
 // Where the code of a function ends: the last is shorter.
-fn end_of(functions: u32, number: u32) -> u32
+fn sample_end(functions: u32, number: u32) -> u32
     requires below { number < functions }
     requires most { functions ≤ 4096 }
-    ensures { result ≡ end_of functions number }
+    ensures { result ≡ sample_end functions number }
 {
     let length = if number + 1 == functions { 6 } else { 14 };
-    place_of(number) + length
+    sample_place(number) + length
 }
 
 // What a function returns: its number and those of the functions behind it, together.
 #[tactic(auto, using(crate::proofs::SumLaws::half, crate::proofs::SumLaws::twice_fits))]
-fn value_of(functions: u32, number: u32) -> u32
+fn sample_result(functions: u32, number: u32) -> u32
     requires below { number < functions }
     requires most { functions ≤ 4096 }
-    ensures { result ≡ value_of functions number }
+    ensures { result ≡ sample_result functions number }
 {
     let count = functions - number;
     let first_and_last = number + (functions - 1);
@@ -59,8 +59,17 @@ fn function_notes(alloc: Global, functions: u32, number: u32) -> Result<String, 
     requires most { functions ≤ 4096 }
     ensures { IfOk result (λ text. string_bytes text ≡ function_notes functions number) }
 {
-    let mut text = place_lines(alloc, number, place_of(number), end_of(functions, number))?;
-    let calls = call_lines(alloc, functions - 1 - number, value_of(functions, number))?;
+    let mut text = place_lines(
+        alloc,
+        number,
+        sample_place(number),
+        sample_end(functions, number),
+    )?;
+    let calls = call_lines(
+        alloc,
+        functions - 1 - number,
+        sample_result(functions, number),
+    )?;
     text.push_str(calls.as_str())?;
     Ok(text)
 }

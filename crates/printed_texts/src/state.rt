@@ -3,7 +3,7 @@ ghost use Rattle.std.specs.Prelude.{◌≡◌, ◌<◌, ◌++◌, ◌∷◌, [],
 ghost use Rattle.note_types.specs.States.{type_of};
 ghost use Rattle.note_texts.specs.SlotGrammar.{kind_text};
 ghost use Rattle.printed_texts.specs.PrintedTypes.{field_names};
-ghost use Rattle.printed_texts.specs.PrintedStates.{fields_at, is_left_out, item_text, item_texts, register_text, register_texts};
+ghost use Rattle.printed_texts.specs.PrintedStates.{fields_at, is_left_out, item_text, item_texts, register_texts, register_type_text};
 ghost use Rattle.printed_texts.specs.PrintedStates.{state_text};
 
 use crate::function::function_at;
@@ -37,7 +37,7 @@ fn is_left_out(register: u8, ty: Ty) -> bool
 }
 
 // A register and its type.
-fn register_text(
+fn register_type_text(
     alloc: Global,
     notes: &Notes,
     fields: &[Field],
@@ -45,7 +45,7 @@ fn register_text(
     register: u8,
 ) -> Result<String, NoMemory>
     requires { register < 8 }
-    ensures { IfOk result (λ text. string_bytes text ≡ register_text notes.now fields.now state.now register) }
+    ensures { IfOk result (λ text. string_bytes text ≡ register_type_text notes.now fields.now state.now register) }
 {
     let ty = type_text(alloc, notes, fields, state.regs[register as usize])?;
     Ok(format!(in alloc; "R{register} {ty}")?)
@@ -62,12 +62,12 @@ fn add_register(
 ) -> Result<(), NoMemory>
     requires { register < 8 }
     ensures { OnOk result (texts.new.items ≡ texts.old.items ++ (if not (is_left_out register (type_of state.now register))
-        then register_text notes.now fields.now state.now register ∷ [] else [])) }
+        then register_type_text notes.now fields.now state.now register ∷ [] else [])) }
 {
     if is_left_out(register, state.regs[register as usize]) {
         return Ok(());
     }
-    let text = register_text(alloc, notes, fields, state, register)?;
+    let text = register_type_text(alloc, notes, fields, state, register)?;
     texts.push(Name::new(text))?;
     Ok(())
 }

@@ -1,8 +1,8 @@
 //! The texts of types.
 ghost use Rattle.std.specs.Prelude.{◌≡◌, ◌++◌, IfOk, string_bytes};
 ghost use Rattle.note_texts.specs.TypeGrammar.{grants_text, range_text};
-ghost use Rattle.printed_texts.specs.PrintedTypes.{divisor_text, field_names, int_text, is_whole, offset_text, pointer_text, ranged_text};
-ghost use Rattle.printed_texts.specs.PrintedTypes.{type_text};
+ghost use Rattle.printed_texts.specs.PrintedTypes.{divisor_text, field_names, int_text, is_every_number, offset_text, pointer_text};
+ghost use Rattle.printed_texts.specs.PrintedTypes.{ranged_text, type_text};
 
 use crate::cell::{cell_text, counted_text, mark_of};
 use crate::names::{field_name, field_names, method_name, shape_name};
@@ -22,9 +22,9 @@ fn divisor_text(alloc: Global, div: u64) -> Result<String, AllocError>
 }
 
 // Whether these are all 64-bit numbers.
-#[tactic(auto, unfolding(crate::specs::PrintedTypes::is_whole))]
-fn is_whole(lo: u64, hi: u64, div: u64) -> bool
-    ensures { result ≡ is_whole lo hi div }
+#[tactic(auto, unfolding(crate::specs::PrintedTypes::is_every_number))]
+fn is_every_number(lo: u64, hi: u64, div: u64) -> bool
+    ensures { result ≡ is_every_number lo hi div }
 {
     lo == 0 && hi == u64::MAX && div == 1
 }
@@ -50,7 +50,7 @@ fn ranged_text(alloc: Global, lo: u64, hi: u64, div: u64) -> Result<String, Allo
 fn int_text(alloc: Global, lo: u64, hi: u64, div: u64) -> Result<String, AllocError>
     ensures { IfOk result (λ text. string_bytes text ≡ int_text lo hi div) }
 {
-    if is_whole(lo, hi, div) {
+    if is_every_number(lo, hi, div) {
         String::from_str(alloc, "int")
     } else {
         ranged_text(alloc, lo, hi, div)

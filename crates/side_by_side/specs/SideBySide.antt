@@ -10,12 +10,12 @@ unfoldable pub margin : List ℕ → ℕ
 margin line = position_or_len (λ b. not (b == 32)) line
 
 -- what stands before the first blank of a text
-unfoldable pub word : List ℕ → List ℕ
-word text = before_first (λ b. b == 32) text
+unfoldable pub first_word : List ℕ → List ℕ
+first_word text = before_first (λ b. b == 32) text
 
 -- what a line is about: its first word
 abbrev pub subject : List ℕ → List ℕ
-subject line = word (drop (margin line) line)
+subject line = first_word (drop (margin line) line)
 
 -- what stands behind the first blank of a text
 unfoldable pub past_word : List ℕ → List ℕ
@@ -26,30 +26,30 @@ unfoldable pub but_last_word : List ℕ → List ℕ
 but_last_word text = before_last (λ b. b == 32) text
 
 -- where the bytes of a row lie, in words: what stands between their address, which is its second word, and the bytes, its last one
-abbrev pub row_place : List ℕ → List ℕ
-row_place line = but_last_word (past_word (past_word (drop (margin line) line)))
+abbrev pub row_place_words : List ℕ → List ℕ
+row_place_words line = but_last_word (past_word (past_word (drop (margin line) line)))
 
 -- nothing of a line that is no row of bytes
 abbrev pub place : List ℕ → List ℕ
-place line = if bytes_eq (subject line) (codes "bytes") then row_place line else []
+place line = if bytes_eq (subject line) (codes "bytes") then row_place_words line else []
 
 -- whether two places are one of the image, of which each is a word, or are in one object: `ptr`, its number, and where in it
 abbrev pub same_object : List ℕ → List ℕ → Bool
-same_object p q = bytes_eq (word p) (word q) && bytes_eq (but_last_word p) (but_last_word q)
+same_object p q = bytes_eq (first_word p) (first_word q) && bytes_eq (but_last_word p) (but_last_word q)
 
 -- whether two lines are about the same: rows of bytes also have the same object
 abbrev pub same_subject : List ℕ → List ℕ → Bool
 same_subject a b = bytes_eq (subject a) (subject b) && same_object (place a) (place b)
 
 -- a line of one width alone: a mark stands behind its blanks
-abbrev pub marked : List ℕ → List ℕ → List ℕ
-marked mark line = take (margin line) line ++ (mark ++ (drop (margin line) line ++ codes "\n"))
+abbrev pub marked_line : List ℕ → List ℕ → List ℕ
+marked_line mark line = take (margin line) line ++ (mark ++ (drop (margin line) line ++ codes "\n"))
 
 abbrev pub only32 : List ℕ → List ℕ
-only32 line = marked (codes "32 ") line
+only32 line = marked_line (codes "32 ") line
 
 abbrev pub only64 : List ℕ → List ℕ
-only64 line = marked (codes "64 ") line
+only64 line = marked_line (codes "64 ") line
 
 -- two lines that are about the same: once if they are one
 abbrev pub paired : List ℕ → List ℕ → List ℕ

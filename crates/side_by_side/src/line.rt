@@ -1,7 +1,7 @@
 //! A line, and two of them side by side.
 ghost use Rattle.std.specs.Prelude.{◌≡◌, ◌++◌, OnOk, codes, drop, take};
-ghost use Rattle.side_by_side.specs.SideBySide.{but_last_word, margin, marked, paired, past_word, place, row_place};
-ghost use Rattle.side_by_side.specs.SideBySide.{same_object, same_subject, subject, word};
+ghost use Rattle.side_by_side.specs.SideBySide.{but_last_word, first_word, margin, marked_line, paired, past_word, place, row_place_words};
+ghost use Rattle.side_by_side.specs.SideBySide.{same_object, same_subject, subject};
 
 use std::alloc::AllocError;
 
@@ -26,8 +26,8 @@ fn parts(line: &[u8]) -> (&[u8], &[u8])
 }
 
 // What stands before the first blank of a text.
-fn word(text: &[u8]) -> &[u8]
-    ensures { result.now ≡ word text.now }
+fn first_word(text: &[u8]) -> &[u8]
+    ensures { result.now ≡ first_word text.now }
 {
     match text.iter().position(|byte| *byte == b' ') {
         Some(at) => text.split_at(at).0,
@@ -40,7 +40,7 @@ fn subject(line: &[u8]) -> &[u8]
     ensures { result.now ≡ subject line.now }
 {
     let (_, words) = parts(line);
-    word(words)
+    first_word(words)
 }
 
 // What stands behind the first blank of a text.
@@ -64,8 +64,8 @@ fn but_last_word(text: &[u8]) -> &[u8]
 }
 
 // Where the bytes of a row lie.
-fn row_place(line: &[u8]) -> &[u8]
-    ensures { result.now ≡ row_place line.now }
+fn row_place_words(line: &[u8]) -> &[u8]
+    ensures { result.now ≡ row_place_words line.now }
 {
     let (_, words) = parts(line);
     but_last_word(past_word(past_word(words)))
@@ -76,7 +76,7 @@ fn place(line: &[u8]) -> &[u8]
     ensures { result.now ≡ place line.now }
 {
     if subject(line) == ROW {
-        row_place(line)
+        row_place_words(line)
     } else {
         &[]
     }
@@ -86,7 +86,7 @@ fn place(line: &[u8]) -> &[u8]
 fn same_object(p: &[u8], q: &[u8]) -> bool
     ensures { result ≡ same_object p.now q.now }
 {
-    word(p) == word(q) && but_last_word(p) == but_last_word(q)
+    first_word(p) == first_word(q) && but_last_word(p) == but_last_word(q)
 }
 
 /// Whether two lines are about the same.
@@ -98,7 +98,7 @@ pub(crate) fn same_subject(a: &[u8], b: &[u8]) -> bool
 
 /// Appends a line of one width alone.
 pub(crate) fn append_marked(mark: &[u8], line: &[u8], out: &mut Vec<u8>) -> Result<(), AllocError>
-    ensures { OnOk result (out.new.items ≡ out.old.items ++ marked mark.now line.now) }
+    ensures { OnOk result (out.new.items ≡ out.old.items ++ marked_line mark.now line.now) }
 {
     let (blanks, words) = parts(line);
     out.extend_from_slice(blanks)?;

@@ -4,16 +4,16 @@ use Rattle.stack_needs.proofs.Common.{arith, slice_get, IsStack, functions_of, M
 use Rattle.std.proofs.{Common.◌⊎◌, Common.◌<◌, lemmas.List.map-append}
 use Rattle.std.specs.Prelude.{slice_set}
 use Rattle.ebc_base.proofs.Lists.{slice_get-front}
-use Rattle.stack_needs.specs.{Calls.Leads, Calls.LeadsIn, Walks.LastCalls}
+use Rattle.stack_needs.specs.{Calls.HasChain, Calls.LeadsIn, Walks.LastCalls}
 use Rattle.stack_needs.specs.declared.order.Visit.{Visit}
 
 -- ---- steps
 
-pub leads-one : (R : ℕ → ℕ → Type 0) (k j : ℕ) → R k j → Leads R k j
+pub leads-one : (R : ℕ → ℕ → Type 0) (k j : ℕ) → R k j → HasChain R k j
 unfolding LeadsIn
 leads-one R k j r = (zero, r)
 
-pub leads-more : (R : ℕ → ℕ → Type 0) (k m j : ℕ) → Leads R k m → R m j → Leads R k j
+pub leads-more : (R : ℕ → ℕ → Type 0) (k m j : ℕ) → HasChain R k m → R m j → HasChain R k j
 unfolding LeadsIn
 leads-more R k m j (n, l) r = (suc n, (m, (l, r)))
 
@@ -23,7 +23,7 @@ unfolding LeadsIn
 leads_in R S to zero k j l = to k j l
 leads_in R S to (suc n) k j (m, (l, r)) = (m, (leads_in R S to n k m l, to m j r))
 
-pub leads-by : (R S : ℕ → ℕ → Type 0) → ((k j : ℕ) → R k j → S k j) → (k j : ℕ) → Leads R k j → Leads S k j
+pub leads-by : (R S : ℕ → ℕ → Type 0) → ((k j : ℕ) → R k j → S k j) → (k j : ℕ) → HasChain R k j → HasChain S k j
 leads-by R S to k j (n, l) = (n, leads_in R S to n k j l)
 
 -- ---- lists
@@ -56,7 +56,7 @@ stack-none R marks none = record {
 
 -- a function that is opens calls back to itself, where the last of the functions calls it
 pub stack-back : (R : ℕ → ℕ → Type 0) (marks : List Mark) (stack : List ℕ) (k : ℕ) → IsStack R marks stack → LastCalls R stack k
-    → slice_get marks k ≡ Some Open → Leads R k k
+    → slice_get marks k ≡ Some Open → HasChain R k k
 stack-back R marks stack k s (inl empty) opens =
     let found = s.opened k opens in
     let gone : slice_get [] found.0 ≡ Some k = ap (λ xs. slice_get xs found.0) (sym empty) ∙ found.1 in
@@ -67,7 +67,7 @@ stack-back R marks stack k s (inr (before, (last, (is, calls)))) opens =
   where
     by_cases : (before : List ℕ) (last i : ℕ) → stack ≡ before ++ last ∷ [] → R last k
         → ((i < length before) × (slice_get before i ≡ Some k)) ⊎ ((i ≡ length before) × (k ≡ last)) → slice_get stack i ≡ Some k
-        → Leads R k k
+        → HasChain R k k
     by_cases before last i is calls (inl p) here =
         leads-more R k last k (s.leads i (length before) k last p.0 here
         (ap (λ xs. slice_get xs (length before)) is ∙ push-last before last)) calls
@@ -84,7 +84,7 @@ stack-more R marks new stack k s last marked = record {
       (marked m opens);
 }
   where
-    to_last : (a i : ℕ) → slice_get stack i ≡ Some a → LastCalls R stack k → Leads R a k
+    to_last : (a i : ℕ) → slice_get stack i ≡ Some a → LastCalls R stack k → HasChain R a k
     to_last a i here (inl empty) =
         let gone : slice_get [] i ≡ Some a = ap (λ xs. slice_get xs i) (sym empty) ∙ here in absurd cc
     to_last a i here (inr (before, (top, (is, calls)))) =
@@ -95,9 +95,9 @@ stack-more R marks new stack k s last marked = record {
         (push-cases before top a i (ap (λ xs. slice_get xs i) (sym is) ∙ here))
 
     lead : (i j a b : ℕ) → i < j → ((i < length stack) × (slice_get stack i ≡ Some a)) ⊎ ((i ≡ length stack) × (a ≡ k))
-        → ((j < length stack) × (slice_get stack j ≡ Some b)) ⊎ ((j ≡ length stack) × (b ≡ k)) → Leads R a b
+        → ((j < length stack) × (slice_get stack j ≡ Some b)) ⊎ ((j ≡ length stack) × (b ≡ k)) → HasChain R a b
     lead i j a b less (inl p) (inl q) = s.leads i j a b less p.1 q.1
-    lead i j a b less (inl p) (inr q) = subst (Leads R a) (sym q.1) (to_last a i p.1 last)
+    lead i j a b less (inl p) (inr q) = subst (HasChain R a) (sym q.1) (to_last a i p.1 last)
     lead i j a b less (inr p) (inl q) = let x = p.0 in let y = q.0 in absurd (omega arith)
     lead i j a b less (inr p) (inr q) = let x = p.0 in let y = q.0 in absurd (omega arith)
 

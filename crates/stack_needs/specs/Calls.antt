@@ -7,7 +7,7 @@ use Rattle.note_types.specs.declared.notes.FnNote.{FnNote}
 use Rattle.note_types.specs.declared.notes.Notes.{Notes}
 use Rattle.pe_image.specs.declared.image.Image.{Image}
 use Rattle.rules_image.specs.Images.{IsDecoded, reloc_at}
-use Rattle.stack_needs.specs.Ways.{Comes, IsUnevenIn}
+use Rattle.stack_needs.specs.Ways.{HasWay, IsUnevenIn}
 use Rattle.stack_needs.specs.declared.depth.Depth.{Depth}
 use Rattle.stack_needs.specs.declared.outcome.NotFound.{NotFound}
 use Rattle.stack_needs.specs.declared.outcome.NotFound.TheVariants as ends
@@ -21,7 +21,7 @@ called_place next reloc i = None
 pub record CallsFrom (image : Image) (notes : Notes) (f : FnNote) (callee : ℕ) : Type 0 where
   pub from : ℕ
   pub lies : Depth
-  pub comes : Comes image f from lies
+  pub comes : HasWay image f from lies
   pub insn : Insn
   pub next : ℕ
   pub decode : IsDecoded image f from insn next
@@ -30,7 +30,7 @@ pub record CallsFrom (image : Image) (notes : Notes) (f : FnNote) (callee : ℕ)
   pub calls : called_place next (reloc_at image next) insn ≡ Some (pos g.place)
 
 -- a function calls another, by their numbers
-pub record Calls (image : Image) (notes : Notes) (caller callee : ℕ) : Type 0 where
+pub record CallsFunction (image : Image) (notes : Notes) (caller callee : ℕ) : Type 0 where
   pub f : FnNote
   pub there : slice_get notes.function caller ≡ Some f
   pub calls : CallsFrom image notes f callee
@@ -40,15 +40,15 @@ unfoldable pub LeadsIn : (ℕ → ℕ → Type 0) → ℕ → ℕ → ℕ → Ty
 LeadsIn R zero k j = R k j
 LeadsIn R (suc n) k j = (m : ℕ) × (LeadsIn R n k m × R m j)
 
-abbrev pub Leads : (ℕ → ℕ → Type 0) → ℕ → ℕ → Type 0
-Leads R k j = (n : ℕ) × LeadsIn R n k j
+abbrev pub HasChain : (ℕ → ℕ → Type 0) → ℕ → ℕ → Type 0
+HasChain R k j = (n : ℕ) × LeadsIn R n k j
 
 -- the calls of a function lead back to it
 abbrev pub IsRecursive : Image → Notes → ℕ → Type 0
-IsRecursive image notes k = Leads (Calls image notes) k k
+IsRecursive image notes k = HasChain (CallsFunction image notes) k k
 
 -- why levels and needs aren't found
-abbrev pub HasCause : Image → Notes → NotFound → Type 0
-HasCause image notes (ends.Recursion function) = IsRecursive image notes function
-HasCause image notes (ends.Uneven place) = IsUnevenIn image notes place
-HasCause image notes ends.NoMemory = Unit {0}
+abbrev pub HasStackCause : Image → Notes → NotFound → Type 0
+HasStackCause image notes (ends.Recursion function) = IsRecursive image notes function
+HasStackCause image notes (ends.Uneven place) = IsUnevenIn image notes place
+HasStackCause image notes ends.NoMemory = Unit {0}

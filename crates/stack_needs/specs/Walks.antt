@@ -5,8 +5,8 @@ use Rattle.note_types.specs.declared.notes.FnNote.{FnNote}
 use Rattle.note_types.specs.declared.notes.Notes.{Notes}
 use Rattle.pe_image.specs.declared.image.Image.{Image}
 use Rattle.rules_image.specs.Images.{reloc_at}
-use Rattle.stack_needs.specs.Calls.{CallsFrom, Leads, called_place}
-use Rattle.stack_needs.specs.Ways.{Comes, IsUneven}
+use Rattle.stack_needs.specs.Calls.{CallsFrom, HasChain, called_place}
+use Rattle.stack_needs.specs.Ways.{HasWay, IsUneven}
 use Rattle.stack_needs.specs.declared.depth.Depth.{Depth}
 use Rattle.stack_needs.specs.declared.order.Mark.{Mark}
 use Rattle.stack_needs.specs.declared.order.Mark.TheVariants.{Open}
@@ -27,21 +27,21 @@ pub record IsCallee (image : Image) (notes : Notes) (next : ℕ) (i : Insn) (cal
   pub calls : called_place next (reloc_at image next) i ≡ Some (pos g.place)
 
 -- a place was come to with so much on the stack
-abbrev pub IsReached : Image → FnNote → Reached → Type 0
-IsReached image f r = Comes image f r.place r.depth
+abbrev pub IsReachedPlace : Image → FnNote → Reached → Type 0
+IsReachedPlace image f r = HasWay image f r.place r.depth
 
 -- each call that was seen is one
 abbrev pub AreCalls : Image → Notes → FnNote → List Called → Type 0
 AreCalls image notes f calls = All (λ (c : Called). CallsFrom image notes f c.function) calls
 
 -- what is written at even places is what some way leaves there
-abbrev pub AreWritten : Image → FnNote → List (Option Depth) → Type 0
-AreWritten image f at = (k : ℕ) (d : Depth) → slice_get at k ≡ Some (Some d) → Comes image f (f.place + 2 * k) d
+abbrev pub AreWrittenDepths : Image → FnNote → List (Option Depth) → Type 0
+AreWrittenDepths image f at = (k : ℕ) (d : Depth) → slice_get at k ≡ Some (Some d) → HasWay image f (f.place + 2 * k) d
 
 -- a walk under way has seen what is there
 pub record IsCourse (image : Image) (notes : Notes) (f : FnNote) (c : Course) : Type 0 where
-  pub at : AreWritten image f c.at.items
-  pub pending : All (IsReached image f) c.pending.items
+  pub at : AreWrittenDepths image f c.at.items
+  pub pending : All (IsReachedPlace image f) c.pending.items
   pub calls : AreCalls image notes f c.walked.calls.items
 
 -- a walk ends where two ways differ, or memory ran out
@@ -63,7 +63,7 @@ functions_of visits = map (λ (v : Visit). v.function) visits
 
 -- Calls lead from each of the functions to each behind it, and a function that is open is one of them.
 pub record IsStack (R : ℕ → ℕ → Type 0) (marks : List Mark) (stack : List ℕ) : Type 0 where
-  pub leads : (i j k l : ℕ) → i < j → slice_get stack i ≡ Some k → slice_get stack j ≡ Some l → Leads R k l
+  pub leads : (i j k l : ℕ) → i < j → slice_get stack i ≡ Some k → slice_get stack j ≡ Some l → HasChain R k l
   pub opened : (k : ℕ) → slice_get marks k ≡ Some Open → (i : ℕ) × (slice_get stack i ≡ Some k)
 
 -- the last of the functions calls one
@@ -72,6 +72,6 @@ LastCalls R stack k = (stack ≡ []) ⊎ ((before : List ℕ) × ((last : ℕ) �
 
 -- a search ends where calls lead back, or memory ran out
 abbrev pub EndsSearch : (ℕ → ℕ → Type 0) → NotFound → Type 0
-EndsSearch R (ends.Recursion function) = Leads R function function
+EndsSearch R (ends.Recursion function) = HasChain R function function
 EndsSearch R ends.NoMemory = Unit {0}
 EndsSearch R (ends.Uneven place) = ⊥

@@ -5,13 +5,13 @@ use Rattle.note_infer.specs.Leaders.{names_place}
 use Rattle.note_types.specs.declared.notes.FnNote.{FnNote}
 use Rattle.note_types.specs.declared.notes.Notes.{Notes}
 use Rattle.pe_image.specs.declared.image.Image.{Image}
-use Rattle.rules_image.specs.Images.{IsDecoded, reloc_at}
-use Rattle.stack_needs.specs.Depths.{after, falls, no_depth}
+use Rattle.rules_image.specs.Images.{IsDecoded, falls, reloc_at}
+use Rattle.stack_needs.specs.Depths.{after, no_depth}
 use Rattle.stack_needs.specs.declared.depth.Depth.{Depth}
 
 -- an instruction before `next` leads to a place: it falls to the next one, or its jump names it
-abbrev pub LeadsTo : Image → ℕ → Insn → ℕ → Type 0
-LeadsTo image next i place = ((falls i ≡ true) × (place ≡ next)) ⊎ (names_place next (reloc_at image next) i ≡ Some (pos place))
+abbrev pub LeadsToPlace : Image → ℕ → Insn → ℕ → Type 0
+LeadsToPlace image next i place = ((falls i ≡ true) × (place ≡ next)) ⊎ (names_place next (reloc_at image next) i ≡ Some (pos place))
 
 -- an instruction at one of these places, with so much on the stack, leads to a place
 pub record ComesFrom (image : Image) (f : FnNote) (before : ℕ → Depth → Type 0) (place : ℕ) (depth : Depth) : Type 0 where
@@ -21,7 +21,7 @@ pub record ComesFrom (image : Image) (f : FnNote) (before : ℕ → Depth → Ty
   pub insn : Insn
   pub next : ℕ
   pub decode : IsDecoded image f from insn next
-  pub leads : LeadsTo image next insn place
+  pub leads : LeadsToPlace image next insn place
   pub is : depth ≡ after lies insn
 
 -- a way of so many instructions from the function's start comes to a place, and so much lies on the stack then
@@ -30,15 +30,15 @@ ComesBy image f zero place depth = (place ≡ f.place) × (depth ≡ no_depth)
 ComesBy image f (suc n) place depth = ComesFrom image f (ComesBy image f n) place depth
 
 -- some way comes there so
-abbrev pub Comes : Image → FnNote → ℕ → Depth → Type 0
-Comes image f place depth = (n : ℕ) × ComesBy image f n place depth
+abbrev pub HasWay : Image → FnNote → ℕ → Depth → Type 0
+HasWay image f place depth = (n : ℕ) × ComesBy image f n place depth
 
 -- two ways come to a place of a function with different amounts on the stack
 pub record IsUneven (image : Image) (f : FnNote) (place : ℕ) : Type 0 where
   pub one : Depth
   pub other : Depth
-  pub comes_one : Comes image f place one
-  pub comes_other : Comes image f place other
+  pub comes_one : HasWay image f place one
+  pub comes_other : HasWay image f place other
   pub apart : one ≡ other → ⊥
 
 pub record IsUnevenIn (image : Image) (notes : Notes) (place : ℕ) : Type 0 where

@@ -2,7 +2,8 @@
 
 ghost use Rattle.std.specs.Prelude.{◌≡◌};
 ghost use Rattle.ebc_insn.specs.Spelling.{WellFormed};
-ghost use Rattle.stack_needs.specs.Depths.{after, is_r0, no_depth, with_bytes, without};
+ghost use Rattle.width_checker.specs.Rows.{is_r0};
+ghost use Rattle.stack_needs.specs.Depths.{after, no_depth, with_more_bytes, without};
 
 use ebc_insn::{Insn, Operand, Size};
 use note_types::Pair;
@@ -35,7 +36,7 @@ impl Depth {
 
     /// So many bytes more, at each width.
     pub fn with(self, at4: i64, at8: i64) -> Depth
-        ensures { result ≡ with_bytes self at4 at8 }
+        ensures { result ≡ with_more_bytes self at4 at8 }
     {
         Depth {
             at4: self.at4.saturating_add(at4),
@@ -84,7 +85,7 @@ impl Depth {
 fn is_r0(op: &Operand) -> bool
     ensures { result ≡ is_r0 op.now }
 {
-    op.reg == 0 && !op.indirect
+    !op.indirect && op.reg == 0
 }
 
 /// How much lies on the stack after an instruction.

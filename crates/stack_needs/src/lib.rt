@@ -5,7 +5,7 @@
 //!
 //! - `find_needs`: a level and a need for each function, in their order (`count`), or why there are none (`cause`). It
 //!   goes over notes as they are read (`IsNotes`), whose functions keep their rule (`FunctionHolds`), and always
-//!   returns. These are the causes (`HasCause`):
+//!   returns. These are the causes (`HasStackCause`):
 //!   - Uneven: two ways through a function's code come to the place with different amounts on the stack (`IsUnevenIn`).
 //!   - Recursion: the function's calls lead back to it (`IsRecursive`).
 //!

@@ -5,7 +5,7 @@ ghost use Rattle.std.specs.Prelude.{◌≡◌, ℕ, IfErr, IfOk, length};
 ghost use Rattle.note_types.specs.Records.{IsNotes};
 ghost use Rattle.pe_image.specs.Images.{IsImage};
 ghost use Rattle.rules_image.specs.Images.{FunctionHolds};
-ghost use Rattle.stack_needs.specs.Calls.{Calls, HasCause};
+ghost use Rattle.stack_needs.specs.Calls.{CallsFunction, HasStackCause};
 ghost use Rattle.stack_needs.specs.Walks.{Sees};
 
 use crate::order::callees_first;
@@ -23,8 +23,8 @@ fn walk_all(alloc: Global, image: &Image, notes: &Notes) -> Result<Vec<Walked>, 
     requires image { IsImage image.now }
     requires notes { IsNotes notes.now }
     requires functions { (k : ℕ) → FunctionHolds image.now notes.now k }
-    ensures calls { IfOk result (λ walks. (k j : ℕ) → Sees walks.items k j → Calls image.now notes.now k j) }
-    ensures cause { IfErr result (HasCause image.now notes.now) }
+    ensures calls { IfOk result (λ walks. (k j : ℕ) → Sees walks.items k j → CallsFunction image.now notes.now k j) }
+    ensures cause { IfErr result (HasStackCause image.now notes.now) }
 {
     let mut walks = Vec::new(alloc);
     for f in notes.function.as_slice() {
@@ -114,7 +114,7 @@ pub fn find_needs(
     requires notes { IsNotes notes.now }
     requires functions { (k : ℕ) → FunctionHolds image.now notes.now k }
     ensures count { IfOk result (λ found. length found.items ≡ length notes.now.function) }
-    ensures cause { IfErr result (HasCause image.now notes.now) }
+    ensures cause { IfErr result (HasStackCause image.now notes.now) }
 {
     let walks = walk_all(alloc, image, notes)?;
     let mut found = written(alloc, notes.function.as_slice())?;

@@ -6,12 +6,11 @@ ghost use Rattle.note_types.specs.Records.{Ascends};
 ghost use Rattle.pe_image.specs.Images.{IsImage};
 ghost use Rattle.note_infer.specs.Finding.{HasCode};
 ghost use Rattle.note_infer.specs.Leaders.{names_place};
-ghost use Rattle.rules_image.specs.Images.{IsDecoded, reloc_at};
+ghost use Rattle.rules_image.specs.Images.{IsDecoded, falls, reloc_at};
 ghost use Rattle.rules_image.specs.Tables.{IsCodeOf};
 ghost use Rattle.stack_needs.specs.Calls.{called_place};
-ghost use Rattle.stack_needs.specs.Depths.{falls};
-ghost use Rattle.stack_needs.specs.Walks.{AreCalls, EndsWalk, IsCallee, IsCourse, IsReached};
-ghost use Rattle.stack_needs.specs.Ways.{Comes};
+ghost use Rattle.stack_needs.specs.Walks.{AreCalls, EndsWalk, IsCallee, IsCourse, IsReachedPlace};
+ghost use Rattle.stack_needs.specs.Ways.{HasWay};
 ghost use Rattle.note_types.specs.declared.notes.FnNote.{FnNote};
 ghost use Rattle.note_types.specs.declared.notes.Notes.{Notes};
 ghost use Rattle.pe_image.specs.declared.image.Image.{Image};
@@ -42,13 +41,19 @@ pub(crate) struct Walked {
 }
 
 // Whether control may go on at the next instruction.
-#[tactic(auto, unfolding(crate::specs::Depths::falls))]
 fn falls(i: &Insn) -> bool
     ensures { result ≡ falls i.now }
 {
     match i {
-        Insn::Ret => false,
-        Insn::Jump { cond, .. } | Insn::Jump8 { cond, .. } => *cond != Cond::Always,
+        Insn::Ret
+        | Insn::Jump {
+            cond: Cond::Always,
+            ..
+        }
+        | Insn::Jump8 {
+            cond: Cond::Always,
+            ..
+        } => false,
         _ => true,
     }
 }
@@ -166,7 +171,7 @@ impl Course {
     // Writes what lies at a place, by its number, to which it came first, and is to go on from there.
     fn write(&mut self, code: &Code, slot: usize, reached: Reached) -> Result<(), NotFound>
         requires course { IsCourse code.now.image.now code.now.notes.now code.now.f.now self.now }
-        requires comes { IsReached code.now.image.now code.now.f.now reached }
+        requires comes { IsReachedPlace code.now.image.now code.now.f.now reached }
         requires within { slot < length self.now.at.items }
         requires place { reached.place ≡ code.now.f.now.place + 2 * slot }
         ensures course { OnOk result (IsCourse code.now.image.now code.now.notes.now code.now.f.now self.new) }
@@ -190,7 +195,7 @@ impl Course {
     fn next(&mut self, code: &Code) -> Option<Reached>
         requires course { IsCourse code.now.image.now code.now.notes.now code.now.f.now self.now }
         ensures course { IsCourse code.now.image.now code.now.notes.now code.now.f.now self.new }
-        ensures comes { IfSome result (IsReached code.now.image.now code.now.f.now) }
+        ensures comes { IfSome result (IsReachedPlace code.now.image.now code.now.f.now) }
     {
         self.pending.pop()
     }
@@ -198,7 +203,7 @@ impl Course {
     // Comes to a place with so much on the stack. A place outside the function's code is left to the check.
     fn reach(&mut self, code: &Code, place: u32, depth: Depth) -> Result<(), NotFound>
         requires course { IsCourse code.now.image.now code.now.notes.now code.now.f.now self.now }
-        requires comes { Comes code.now.image.now code.now.f.now place depth }
+        requires comes { HasWay code.now.image.now code.now.f.now place depth }
         ensures course { OnOk result (IsCourse code.now.image.now code.now.notes.now code.now.f.now self.new) }
         ensures ends { IfErr result (EndsWalk code.now.image.now code.now.f.now) }
     {
@@ -223,7 +228,7 @@ impl Course {
         requires image { IsImage code.now.image.now }
         requires ascend { Ascends code.now.notes.now }
         requires course { IsCourse code.now.image.now code.now.notes.now code.now.f.now self.now }
-        requires comes { IsReached code.now.image.now code.now.f.now reached }
+        requires comes { IsReachedPlace code.now.image.now code.now.f.now reached }
         requires decoded { IsDecoded code.now.image.now code.now.f.now reached.place insn.now next }
         ensures course { OnOk result (IsCourse code.now.image.now code.now.notes.now code.now.f.now self.new) }
         ensures ends { IfErr result (EndsWalk code.now.image.now code.now.f.now) }
@@ -247,7 +252,7 @@ impl Course {
     ) -> Result<(), NotFound>
         requires image { IsImage code.now.image.now }
         requires course { IsCourse code.now.image.now code.now.notes.now code.now.f.now self.now }
-        requires comes { IsReached code.now.image.now code.now.f.now reached }
+        requires comes { IsReachedPlace code.now.image.now code.now.f.now reached }
         requires decoded { IsDecoded code.now.image.now code.now.f.now reached.place insn.now next }
         requires well_formed { WellFormed insn.now }
         ensures course { OnOk result (IsCourse code.now.image.now code.now.notes.now code.now.f.now self.new) }
@@ -270,7 +275,7 @@ impl Course {
         requires code { IsCodeOf code.now.image.now code.now.f.now code.now.bytes.now }
         requires small { code.now.f.now.place + length code.now.bytes.now ≤ 2 ^ 22 }
         requires course { IsCourse code.now.image.now code.now.notes.now code.now.f.now self.now }
-        requires comes { IsReached code.now.image.now code.now.f.now reached }
+        requires comes { IsReachedPlace code.now.image.now code.now.f.now reached }
         ensures course { OnOk result (IsCourse code.now.image.now code.now.notes.now code.now.f.now self.new) }
         ensures ends { IfErr result (EndsWalk code.now.image.now code.now.f.now) }
     {

@@ -12,7 +12,8 @@ use Rattle.rules_flow.specs.declared.successors.Successors.{Successors}
 use Rattle.rules_image.specs.Images.{IsDecoded}
 use Rattle.rules_image.proofs.Decoding.{decoded_once, spelled_at}
 use Rattle.state_walk.specs.declared.preceding.Before.{Before}
-use Rattle.state_walk.specs.Standing.{Decodes, HasDecoded, HasInsnOf, HasStateOf, HasSuccessors, IsInsnOf, IsWholeOf, LeadsTo, StandsBefore}
+use Rattle.state_walk.specs.Standing.{DecodesIfAny, HasDecoded, HasInsnOf, HasStateOf, HasSuccessors, IsBeforeInsn, IsWholeOf}
+use Rattle.state_walk.specs.Standing.{LeadsToStates, StandsBefore}
 use Rattle.width_checker.specs.Rows.{here_at, row_of}
 use Rattle.width_checker.specs.StatesAt.{Comes, StateAt}
 use Rattle.width_checker.specs.Typed.{MeetsRules}
@@ -23,7 +24,7 @@ use Rattle.width_checker.proofs.Walking.{state_there}
 -- ---- the instruction
 
 pub decodes_some : (image : Image) (f : FnNote) (place : ℕ) (i : Insn) (next : ℕ) → IsDecoded image f place i next
-    → Decodes image f place (Some (i, next))
+    → DecodesIfAny image f place (Some (i, next))
 decodes_some image f place i next d j m e =
     let same : (i, next) ≡ (j, m) = same_Some (i, next) (j, m) e in
     subst (λ (p : Insn × ℕ). IsDecoded image f place p.0 p.1) same d
@@ -38,7 +39,7 @@ has_decoded_some image f place i next d j m e =
 
 -- what falls on from the instruction comes to the next place
 pub falls_on : (image : Image) (notes : Notes) (func : ℕ) (f : FnNote) (b : Before) (x : Successors) (i : Insn) (next : ℕ)
-    → StandsBefore image notes func f b → LeadsTo notes b x → b.insn ≡ Some (i, next) → next < f.end
+    → StandsBefore image notes func f b → LeadsToStates notes b x → b.insn ≡ Some (i, next) → next < f.end
     → ComesTo image notes func f next x.fall
 unfolding Comes
 falls_on image notes func f b x i next s l e within =
@@ -66,13 +67,13 @@ falls_on image notes func f b x i next s l e within =
 
 -- what stands at a place at which a state arrives
 pub stands_at : (image : Image) (notes : Notes) (func : ℕ) (f : FnNote) (place : ℕ) (arrived : Option State) (b : Before)
-    → IsInsnOf image func f place b → IsWholeOf image notes func f place b → b.arrived ≡ arrived → Arrives notes place arrived b.state
+    → IsBeforeInsn image func f place b → IsWholeOf image notes func f place b → b.arrived ≡ arrived → Arrives notes place arrived b.state
     → ComesTo image notes func f place arrived → StandsBefore image notes func f b
 stands_at image notes func f place arrived b insn whole is arrives comes =
     let at : place ≡ b.place = sym insn.place_is in
     let came : arrived ≡ b.arrived = sym is in
     record {
-      insn = subst (λ p. IsInsnOf image func f p b) at insn;
+      insn = subst (λ p. IsBeforeInsn image func f p b) at insn;
       whole = subst (λ p. IsWholeOf image notes func f p b) at whole;
       comes = subst (ComesTo image notes func f b.place) came (subst (λ p. ComesTo image notes func f p arrived) at comes);
       state = subst (λ o. Arrives notes b.place o b.state) came (subst (λ p. Arrives notes p arrived b.state) at arrives);
@@ -91,12 +92,12 @@ has_state image notes func f place b there s at g t found is =
     (subst (λ h. StateAt image notes b.func h b.place t) one (subst (λ k. StateAt image notes k f b.place t) number state))
 
 pub has_insn : (image : Image) (notes : Notes) (func : ℕ) (f : FnNote) (place : ℕ) (b : Before)
-    → slice_get notes.function func ≡ Some f → IsInsnOf image func f place b → HasInsnOf image notes place b
+    → slice_get notes.function func ≡ Some f → IsBeforeInsn image func f place b → HasInsnOf image notes place b
 has_insn image notes func f place b there insn =
     let number : func ≡ b.func = sym insn.func_is in (
       f,
       subst (λ k. slice_get notes.function k ≡ Some f) number there,
-      subst (λ k. IsInsnOf image k f place b) number insn,
+      subst (λ k. IsBeforeInsn image k f place b) number insn,
     )
 
 -- ---- an instruction that meets its rules
@@ -128,8 +129,8 @@ module _ (image : Image) (notes : Notes) (func : ℕ) (f : FnNote) (b : Before) 
       (spelled_at image f b.place m.next m.insn m.decode).well_formed m.row
 
 -- whatever its state is
-pub with_state : (image : Image) (func : ℕ) (f : FnNote) (place : ℕ) (b : Before) (s : Option State) → IsInsnOf image func f place b
-    → IsInsnOf image func f place (record b { state = s })
+pub with_state : (image : Image) (func : ℕ) (f : FnNote) (place : ℕ) (b : Before) (s : Option State) → IsBeforeInsn image func f place b
+    → IsBeforeInsn image func f place (record b { state = s })
 with_state image func f place b s i = record {
   func_is = i.func_is;
   place_is = i.place_is;

@@ -18,8 +18,8 @@ use Rattle.width_checker.specs.Typed.{MeetsRules}
 use Rattle.width_checker.specs.Walks.{Arrives, ComesTo}
 
 -- an instruction decodes at a place of a function, where it is there
-abbrev pub Decodes : Image → FnNote → ℕ → Option (Insn × ℕ) → Type 0
-Decodes image f place insn = (i : Insn) (next : ℕ) → insn ≡ Some (i, next) → IsDecoded image f place i next
+abbrev pub DecodesIfAny : Image → FnNote → ℕ → Option (Insn × ℕ) → Type 0
+DecodesIfAny image f place insn = (i : Insn) (next : ℕ) → insn ≡ Some (i, next) → IsDecoded image f place i next
 
 -- an instruction of function `func` stands here, where the rule `relocation` holds of it
 abbrev pub StandsHere : Image → ℕ → ℕ → Option (Insn × ℕ) → Option Here → Type 0
@@ -41,17 +41,17 @@ pub record IsWholeOf (image : Image) (notes : Notes) (func : ℕ) (f : FnNote) (
   pub here : HasHere image notes func place b.insn b.here
 
 -- it stands before the instruction at a place of function `func`
-pub record IsInsnOf (image : Image) (func : ℕ) (f : FnNote) (place : ℕ) (b : Before) : Type 0 where
+pub record IsBeforeInsn (image : Image) (func : ℕ) (f : FnNote) (place : ℕ) (b : Before) : Type 0 where
   pub func_is : b.func ≡ func
   pub place_is : b.place ≡ place
   pub from : f.place ≤ place
   pub within : place < f.end
-  pub insn : Decodes image f place b.insn
+  pub insn : DecodesIfAny image f place b.insn
   pub here : StandsHere image func place b.insn b.here
 
 -- it stands before the instruction at a place of a function of the notes
 abbrev pub HasInsnOf : Image → Notes → ℕ → Before → Type 0
-HasInsnOf image notes place b = (f : FnNote) × (slice_get notes.function b.func ≡ Some f) × IsInsnOf image b.func f place b
+HasInsnOf image notes place b = (f : FnNote) × (slice_get notes.function b.func ≡ Some f) × IsBeforeInsn image b.func f place b
 
 -- its state is the state before the instruction at a place of a function of the notes
 abbrev pub HasStateOf : Image → Notes → ℕ → Before → Type 0
@@ -59,7 +59,7 @@ HasStateOf image notes place b = (f : FnNote) (s : State) → slice_get notes.fu
     → StateAt image notes b.func f place s
 
 -- the instruction leads to these states
-pub record LeadsTo (notes : Notes) (b : Before) (x : Successors) : Type 0 where
+pub record LeadsToStates (notes : Notes) (b : Before) (x : Successors) : Type 0 where
   pub here : Here
   pub insn : Insn
   pub next : ℕ
@@ -75,7 +75,7 @@ HasSuccessors notes b leads = (here : Here) (i : Insn) (next : ℕ) (s : State) 
     → b.insn ≡ Some (i, next) → b.state ≡ Some s → WellFormed i → row_of notes here s i ≡ Ok x → leads ≡ Some x
 
 -- a function of an image under notes, of which the rule `function` holds
-pub record IsWalk (image : Image) (notes : Notes) (func : ℕ) (f : FnNote) : Type 0 where
+pub record IsWalkedFunction (image : Image) (notes : Notes) (func : ℕ) (f : FnNote) : Type 0 where
   pub sound : IsImage image
   pub read : IsNotes notes
   pub there : slice_get notes.function func ≡ Some f
@@ -84,12 +84,12 @@ pub record IsWalk (image : Image) (notes : Notes) (func : ℕ) (f : FnNote) : Ty
 
 -- the walk through a function has come to a place, with what arrives there
 pub record StandsBefore (image : Image) (notes : Notes) (func : ℕ) (f : FnNote) (b : Before) : Type 0 where
-  pub insn : IsInsnOf image func f b.place b
+  pub insn : IsBeforeInsn image func f b.place b
   pub whole : IsWholeOf image notes func f b.place b
   pub comes : ComesTo image notes func f b.place b.arrived
   pub state : Arrives notes b.place b.arrived b.state
 
 -- the walk goes on from an instruction that meets its rules: to the next one, if the function has it
-abbrev pub GoesOn : Image → Notes → ℕ → FnNote → ℕ → Option Before → Type 0
-GoesOn image notes func f place (Some next) = (m : MeetsRules image notes func f place) → next.place ≡ m.next
-GoesOn image notes func f place None = (m : MeetsRules image notes func f place) → f.end ≤ m.next
+abbrev pub GoesToNext : Image → Notes → ℕ → FnNote → ℕ → Option Before → Type 0
+GoesToNext image notes func f place (Some next) = (m : MeetsRules image notes func f place) → next.place ≡ m.next
+GoesToNext image notes func f place None = (m : MeetsRules image notes func f place) → f.end ≤ m.next

@@ -19,7 +19,7 @@
 //! `Before::leads` gives the states to which the instruction leads, by `row_of` of `width_checker` (`leads`), wherever
 //! there are such (`whole`).
 //!
-//! `Walk::start` and `Walk::next` go through a function of which the rule `function` holds (`IsWalk`). `stands`: what
+//! `Walk::start` and `Walk::next` go through a function of which the rule `function` holds (`IsWalkedFunction`). `stands`: what
 //! they give stands before an instruction of it (`StandsBefore`). `goes_on`: from an instruction that meets its rules
 //! the walk goes to the next one, and ends only at the function's end.
 //!

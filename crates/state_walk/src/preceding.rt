@@ -2,7 +2,7 @@
 
 ghost use Rattle.std.specs.Prelude.{◌<◌, IfSome};
 ghost use Rattle.note_types.specs.Records.{IsNotes};
-ghost use Rattle.state_walk.specs.Standing.{HasSuccessors, LeadsTo};
+ghost use Rattle.state_walk.specs.Standing.{HasSuccessors, LeadsToStates};
 
 use ebc_insn::{Insn, well_formed};
 use note_infer::row;
@@ -46,7 +46,7 @@ impl Before {
     /// its row fails.
     pub fn leads(&self, notes: &Notes) -> Option<Successors>
         requires { IsNotes notes.now }
-        ensures leads { IfSome result (LeadsTo notes.now self.now) }
+        ensures leads { IfSome result (LeadsToStates notes.now self.now) }
         ensures whole { HasSuccessors notes.now self.now result }
     {
         let here = self.here?;

@@ -6,8 +6,8 @@ ghost use Rattle.note_types.specs.declared.notes.FnNote.{FnNote};
 ghost use Rattle.pe_image.specs.Images.{IsImage};
 ghost use Rattle.rules_image.specs.Tables.{IsCodeOf};
 ghost use Rattle.width_checker.specs.Walks.{Arrives};
-ghost use Rattle.state_walk.specs.Standing.{Decodes, GoesOn, HasDecoded, HasHere, HasInsnOf, HasStateOf, IsInsnOf, IsWalk, IsWholeOf};
-ghost use Rattle.state_walk.specs.Standing.{StandsBefore, StandsHere};
+ghost use Rattle.state_walk.specs.Standing.{DecodesIfAny, GoesToNext, HasDecoded, HasHere, HasInsnOf, HasStateOf, IsBeforeInsn};
+ghost use Rattle.state_walk.specs.Standing.{IsWalkedFunction, IsWholeOf, StandsBefore, StandsHere};
 
 use crate::preceding::{Before, Since, since_then};
 use ebc_decode::decode;
@@ -53,11 +53,11 @@ pub struct Walk<'a> {
 impl<'a> Walk<'a> {
     /// The instruction at a place of the function, and the place of the next one, where these are the function's bytes.
     pub fn insn_at(&self, code: &[u8], place: u32) -> Option<(Insn, u32)>
-        requires walk { IsWalk self.now.image.now self.now.notes.now self.now.func self.now.f.now }
+        requires walk { IsWalkedFunction self.now.image.now self.now.notes.now self.now.func self.now.f.now }
         requires from { self.now.f.now.place ≤ place }
         requires within { place < self.now.f.now.end }
         requires code { IsCodeOf self.now.image.now self.now.f.now code.now }
-        ensures decodes { Decodes self.now.image.now self.now.f.now place result }
+        ensures decodes { DecodesIfAny self.now.image.now self.now.f.now place result }
         ensures whole { HasDecoded self.now.image.now self.now.f.now place result }
     {
         match decode(code, (place - self.f.place) as usize) {
@@ -68,8 +68,8 @@ impl<'a> Walk<'a> {
 
     // Where the instruction at a place stands, where the rule `relocation` holds of it.
     fn here_at(&self, place: u32, insn: &Option<(Insn, u32)>) -> Option<Here>
-        requires walk { IsWalk self.now.image.now self.now.notes.now self.now.func self.now.f.now }
-        requires insn { Decodes self.now.image.now self.now.f.now place insn.now }
+        requires walk { IsWalkedFunction self.now.image.now self.now.notes.now self.now.func self.now.f.now }
+        requires insn { DecodesIfAny self.now.image.now self.now.f.now place insn.now }
         ensures stands { StandsHere self.now.image.now self.now.func place insn.now result }
         ensures whole { HasHere self.now.image.now self.now.notes.now self.now.func place insn.now result }
     {
@@ -90,10 +90,10 @@ impl<'a> Walk<'a> {
 
     // What stands at a place at which a state arrives, where nothing is known of the registers since these.
     fn at(&self, place: u32, arrived: Option<State>, since: [Since; 8]) -> Before
-        requires walk { IsWalk self.now.image.now self.now.notes.now self.now.func self.now.f.now }
+        requires walk { IsWalkedFunction self.now.image.now self.now.notes.now self.now.func self.now.f.now }
         requires from { self.now.f.now.place ≤ place }
         requires within { place < self.now.f.now.end }
-        ensures insn { IsInsnOf self.now.image.now self.now.func self.now.f.now place result }
+        ensures insn { IsBeforeInsn self.now.image.now self.now.func self.now.f.now place result }
         ensures whole { IsWholeOf self.now.image.now self.now.notes.now self.now.func self.now.f.now place result }
         ensures arrived { result.arrived ≡ arrived }
         ensures state { Arrives self.now.notes.now place arrived result.state }
@@ -115,7 +115,7 @@ impl<'a> Walk<'a> {
 
     /// What stands before the function's first instruction.
     pub fn start(&self) -> Before
-        requires walk { IsWalk self.now.image.now self.now.notes.now self.now.func self.now.f.now }
+        requires walk { IsWalkedFunction self.now.image.now self.now.notes.now self.now.func self.now.f.now }
         ensures stands { StandsBefore self.now.image.now self.now.notes.now self.now.func self.now.f.now result }
         ensures place { result.place ≡ self.now.f.now.place }
     {
@@ -126,11 +126,11 @@ impl<'a> Walk<'a> {
     /// What stands before the next instruction of the function. `None` at its last one, and where the instruction breaks
     /// a rule of its row.
     pub fn next(&self, b: &Before) -> Option<Before>
-        requires walk { IsWalk self.now.image.now self.now.notes.now self.now.func self.now.f.now }
+        requires walk { IsWalkedFunction self.now.image.now self.now.notes.now self.now.func self.now.f.now }
         requires stands { StandsBefore self.now.image.now self.now.notes.now self.now.func self.now.f.now b.now }
         ensures stands { IfSome result (StandsBefore self.now.image.now self.now.notes.now self.now.func self.now.f.now) }
         ensures later { IfSome result (λ c. b.now.place < c.place) }
-        ensures goes_on { GoesOn self.now.image.now self.now.notes.now self.now.func self.now.f.now b.now.place result }
+        ensures goes_on { GoesToNext self.now.image.now self.now.notes.now self.now.func self.now.f.now b.now.place result }
     {
         let (_, next) = b.insn?;
         if self.f.end <= next {
@@ -143,7 +143,7 @@ impl<'a> Walk<'a> {
 
     // What stands before the instruction at a place of the function.
     fn to(&self, place: u32) -> Option<Before>
-        requires walk { IsWalk self.now.image.now self.now.notes.now self.now.func self.now.f.now }
+        requires walk { IsWalkedFunction self.now.image.now self.now.notes.now self.now.func self.now.f.now }
         ensures insn { IfSome result (HasInsnOf self.now.image.now self.now.notes.now place) }
         ensures state { IfSome result (HasStateOf self.now.image.now self.now.notes.now place) }
     {
@@ -170,7 +170,7 @@ fn function_with(notes: &Notes, place: u32) -> Option<usize>
 fn function_of<'a>(image: &Image, notes: &'a Notes, place: u32) -> Option<(u32, &'a FnNote)>
     requires image { IsImage image.now }
     requires notes { IsNotes notes.now }
-    ensures walk { IfSome result (λ (func, f). IsWalk image.now notes.now func f.now) }
+    ensures walk { IfSome result (λ (func, f). IsWalkedFunction image.now notes.now func f.now) }
     ensures place { IfSome result (λ (func, f). (f.now.place ≤ place) × (place < f.now.end)) }
 {
     let Ok(()) = check_functions(image, notes) else {

@@ -8,8 +8,8 @@ use Rattle.step_texts.specs.declared.meaning.Meaning.TheVariants as meaning
 use Rattle.step_texts.specs.declared.meaning.Thing.TheVariants as thing
 use Rattle.step_texts.specs.declared.pointed.Cells.TheVariants as kinds
 use Rattle.step_texts.specs.declared.state.OpenCall.TheVariants as calls
-use Rattle.step_texts.specs.PointedTexts.{contents_text, first_words, pointed_line, text_in, unit_text}
-use Rattle.step_texts.specs.RowTexts.{bytes_part, more_line, row_line}
+use Rattle.step_texts.specs.PointedTexts.{contents_text, first_words, leading_text, pointed_line, unit_text}
+use Rattle.step_texts.specs.RowTexts.{changed_bytes_part, more_line, row_line}
 use Rattle.step_texts.specs.StateTexts.{back_line, call_line, function_line}
 use Rattle.step_texts.proofs.Rows.{notes}
 
@@ -19,19 +19,19 @@ unfolding first_words unit_text hex_text
 a_wide_text = refl
 
 a_text : contents_text kinds.Bytes (72 ∷ 105 ∷ 126 ∷ 0 ∷ 1 ∷ []) ≡ codes "\"Hi~\""
-unfolding text_in unit_text
+unfolding leading_text unit_text
 a_text = refl
 
 no_character : contents_text kinds.Bytes (0 ∷ 105 ∷ []) ≡ codes "0069"
-unfolding text_in hex_text
+unfolding leading_text hex_text
 no_character = refl
 
 another_character : contents_text kinds.Bytes (72 ∷ 10 ∷ 0 ∷ []) ≡ codes "480a00"
-unfolding text_in hex_text
+unfolding leading_text hex_text
 another_character = refl
 
 no_zero : contents_text kinds.Bytes (72 ∷ 105 ∷ []) ≡ codes "4869"
-unfolding text_in hex_text
+unfolding leading_text hex_text
 no_zero = refl
 
 seventeen_bytes : pointed_line 1 kinds.Others
@@ -72,7 +72,7 @@ in_a_notification = refl
 -- the old bytes are fewer than the new ones
 changed : row_line notes (record { number = 0x1071C0; meaning = Some (meaning.Past (thing.Object 1) 0) }) (1 ∷ 2 ∷ []) (1 ∷ 3 ∷ 0 ∷ 4 ∷ [])
     ≡ codes "  bytes 00000000001071c0 ptr 1 0 ..03..04\n"
-unfolding bytes_part hex_text digits
+unfolding changed_bytes_part hex_text digits
 changed = refl
 
 two_more : more_line 2 ≡ codes "  more 2\n"

@@ -27,13 +27,13 @@ use Rattle.step_texts.specs.declared.step.Stored.{Stored}
 -- ---- the first line
 
 -- a place behind a space, by the function that it belongs to, as ` main+0x22`; nothing if it belongs to none
-abbrev pub place_in : Option FnNote → ℕ → List ℕ
-place_in None place = []
-place_in (Some f) place = codes " " ++ (f.name ++ (codes "+0x" ++ digits 16 false (place - f.place)))
+abbrev pub place_part : Option FnNote → ℕ → List ℕ
+place_part None place = []
+place_part (Some f) place = codes " " ++ (f.name ++ (codes "+0x" ++ digits 16 false (place - f.place)))
 
 -- the same of where a run stands; nothing outside the image
 abbrev pub function_part : Notes → Spot → List ℕ
-function_part notes (spots.Place place) = place_in (function_at notes place) place
+function_part notes (spots.Place place) = place_part (function_at notes place) place
 function_part notes spots.Gate = []
 function_part notes (spots.Wild x) = []
 
@@ -64,12 +64,12 @@ thing_text notes things.Stack = codes "stack"
 thing_text notes (things.Object k) = codes "ptr " ++ (decimal k ++ codes " 0")
 
 -- a place by the function that it belongs to, as `main+0x22`, or by the image
-abbrev pub image_place : Option FnNote → ℕ → List ℕ
-image_place None place = codes "image+0x" ++ digits 16 false place
-image_place (Some f) place = f.name ++ (codes "+0x" ++ digits 16 false (place - f.place))
+abbrev pub image_place_text : Option FnNote → ℕ → List ℕ
+image_place_text None place = codes "image+0x" ++ digits 16 false place
+image_place_text (Some f) place = f.name ++ (codes "+0x" ++ digits 16 false (place - f.place))
 
 abbrev pub image_text : Notes → ℕ → List ℕ
-image_text notes place = image_place (function_at notes place) place
+image_text notes place = image_place_text (function_at notes place) place
 
 -- what a number is as an address, behind a space; nothing if it is none
 abbrev pub meaning_part : Notes → Option Meaning → List ℕ

@@ -1,8 +1,8 @@
 //! The lines of what arguments of native calls point to.
 ghost use Rattle.std.specs.Prelude.{◌≡◌, ◌++◌, IfOk, OnOk, option_map, string_bytes, take, ◌==◌};
 ghost use Rattle.std.specs.List.{flat_map, list_all, position_or_len};
-ghost use Rattle.step_texts.specs.PointedTexts.{before_zero, contents_text, dots, is_plain, is_printable, pointed_line};
-ghost use Rattle.step_texts.specs.PointedTexts.{shown_text, text_in, unit_text, words};
+ghost use Rattle.step_texts.specs.PointedTexts.{before_zero, contents_text, dots, is_printable, is_unescaped, leading_text, pointed_line};
+ghost use Rattle.step_texts.specs.PointedTexts.{shown_text, unit_text, words};
 
 use crate::changes::push_bytes;
 use crate::numbers::Unit;
@@ -34,8 +34,8 @@ fn is_printable(unit: u16) -> bool
 }
 
 // Whether a cell stands as it is in quotes.
-fn is_plain(unit: u16) -> bool
-    ensures { result ≡ is_plain unit }
+fn is_unescaped(unit: u16) -> bool
+    ensures { result ≡ is_unescaped unit }
 {
     is_printable(unit) && unit != u16::from(b'"') && unit != u16::from(b'\\')
 }
@@ -90,9 +90,9 @@ fn are_printable(bytes: &[u8]) -> bool
 }
 
 // The text that bytes begin with, if they do.
-#[tactic(auto, unfolding(crate::specs::PointedTexts::text_in))]
-fn text_in(bytes: &[u8]) -> Option<&[u8]>
-    ensures { option_map (λ text. text.now) result ≡ text_in bytes.now }
+#[tactic(auto, unfolding(crate::specs::PointedTexts::leading_text))]
+fn leading_text(bytes: &[u8]) -> Option<&[u8]>
+    ensures { option_map (λ text. text.now) result ≡ leading_text bytes.now }
 {
     let at = zero_at(bytes);
     if at < bytes.len() && 0 < at && are_printable(&bytes[..at]) {
@@ -114,7 +114,7 @@ fn front<T: Drop>(items: &[T], count: usize) -> &[T]
 fn push_unit(unit: u16, line: &mut String) -> Result<(), NoMemory>
     ensures { OnOk result (string_bytes line.new ≡ string_bytes line.old ++ unit_text unit) }
 {
-    if is_plain(unit) {
+    if is_unescaped(unit) {
         line.push(char::from(unit as u8))?;
         return Ok(());
     }
@@ -165,7 +165,7 @@ fn push_contents(
         return push_text(before_zero(cells.as_slice()), line);
     }
     if let Cells::Bytes = cells {
-        if let Some(text) = text_in(bytes) {
+        if let Some(text) = leading_text(bytes) {
             let cells = numbers(alloc, front(text, TEXT_CELLS + 1))?;
             return push_text(cells.as_slice(), line);
         }

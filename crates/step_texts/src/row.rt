@@ -1,6 +1,6 @@
 //! The lines of bytes of objects that a run has changed.
 ghost use Rattle.std.specs.Prelude.{◌≡◌, ◌++◌, OnOk, length, string_bytes};
-ghost use Rattle.step_texts.specs.RowTexts.{byte_part, bytes_part, more_line, row_line};
+ghost use Rattle.step_texts.specs.RowTexts.{byte_part, changed_bytes_part, more_line, row_line};
 
 use crate::meaning::NumberPart;
 use crate::numbers::Byte;
@@ -25,7 +25,7 @@ fn push_changed(old: u8, new: u8, line: &mut String) -> Result<(), NoMemory>
 // Adds the bytes that are others than before, and two dots for each that isn't. What wasn't there before was zero.
 #[tactic(auto, using(crate::proofs::RowLaws::none, crate::proofs::RowLaws::one_more))]
 fn push_bytes(old: &[u8], new: &[u8], line: &mut String) -> Result<(), NoMemory>
-    ensures { OnOk result (string_bytes line.new ≡ string_bytes line.old ++ bytes_part old.now new.now (length new.now)) }
+    ensures { OnOk result (string_bytes line.new ≡ string_bytes line.old ++ changed_bytes_part old.now new.now (length new.now)) }
 {
     for k in 0..new.len() {
         let before = old.get(k).copied().unwrap_or(0);

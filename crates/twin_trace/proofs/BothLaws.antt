@@ -17,7 +17,7 @@ use Rattle.printed_texts.proofs.RangeLaws.{flat_more}
 use Rattle.run_trace.proofs.TraceLaws.{ended-lines}
 use Rattle.side_by_side.specs.SideBySide.{lines_beside, side_by_side}
 use Rattle.twin_run.specs.Reported.{own_run}
-use Rattle.twin_trace.specs.BothTraces.{AreAfter, HasEnds, last_told, states_beside, step_beside, steps_beside, told_steps}
+use Rattle.twin_trace.specs.BothTraces.{AreBothAfter, HasEnds, last_told, states_beside, step_beside, steps_beside, told_steps}
 use Rattle.twin_trace.specs.declared.runs.BothRuns.{BothRuns}
 
 -- ---- both runs
@@ -27,14 +27,14 @@ abbrev pub Stops : Program → (k last : ℕ) → Type 0
 Stops p k last = (HasEnded 4 p k × HasEnded 8 p k) ⊎ (last ≤ k)
 
 -- so the runners are where the runs are after the last step
-pub stopped : (p : Program) (taken last k : ℕ) (x : BothRuns) → taken ≤ k → k ≤ max taken last → Stops p k last → AreAfter p k x
-    → AreAfter p (max taken last) x
+pub stopped : (p : Program) (taken last k : ℕ) (x : BothRuns) → taken ≤ k → k ≤ max taken last → Stops p k last → AreBothAfter p k x
+    → AreBothAfter p (max taken last) x
 stopped p taken last k x least most (inl over) are = record {
   at4 = after-end 4 p k (max taken last) x.at4 over.0 most are.at4;
   at8 = after-end 8 p k (max taken last) x.at8 over.1 most are.at8;
 }
 stopped p taken last k x least most (inr past) are =
-    let same : k ≡ max taken last = omega (arith, least, most, past) in subst (λ n. AreAfter p n x) same are
+    let same : k ≡ max taken last = omega (arith, least, most, past) in subst (λ n. AreBothAfter p n x) same are
 
 -- ---- lines
 

@@ -41,12 +41,12 @@ unfoldable pub states_beside : Image → World → ℕ → List ℕ
 states_beside image world taken = side_by_side (state_after 4 image world taken) (state_after 8 image world taken)
 
 -- the lines of the steps that are told, and those of the states after the last one
-abbrev pub told_lines : Image → World → (first last : ℕ) → (differ : Option ℕ) → List ℕ
-told_lines image world first last differ = told_steps image world first last differ ++ states_beside image world last
+abbrev pub both_told_lines : Image → World → (first last : ℕ) → (differ : Option ℕ) → List ℕ
+both_told_lines image world first last differ = told_steps image world first last differ ++ states_beside image world last
 
 -- the last line of a report
-abbrev pub end_of : Notes → RunReport → List ℕ
-end_of notes report = end_line notes report.steps report.spot report.ending
+abbrev pub last_line : Notes → RunReport → List ℕ
+last_line notes report = end_line notes report.steps report.spot report.ending
 
 -- ---- texts
 
@@ -56,17 +56,17 @@ pub record HasEnds (image : Image) (world : World) (last : ℕ) (old new : List 
   pub at8 : RunReport
   pub reports4 : IsReport 4 image world last at4
   pub reports8 : IsReport 8 image world last at8
-  pub lines : new ≡ old ++ side_by_side (end_of world.notes at4) (end_of world.notes at8)
+  pub lines : new ≡ old ++ side_by_side (last_line world.notes at4) (last_line world.notes at8)
 
 -- A text is that of both runs from a first step to a last one.
 pub record IsBothText (image : Image) (world : World) (first last : ℕ) (text : List ℕ) : Type 0 where
   pub differ : Option ℕ
   pub parts : DifferAt image world last differ
-  pub ends : HasEnds image world (last_told last differ) (told_lines image world first (last_told last differ) differ) text
+  pub ends : HasEnds image world (last_told last differ) (both_told_lines image world first (last_told last differ) differ) text
 
 -- ---- runs on their way
 
 -- Both runs are where those at their widths are after so many steps.
-pub record AreAfter (p : Program) (taken : ℕ) (x : BothRuns) : Type 0 where
+pub record AreBothAfter (p : Program) (taken : ℕ) (x : BothRuns) : Type 0 where
   pub at4 : IsAfter 4 p taken x.at4
   pub at8 : IsAfter 8 p taken x.at8

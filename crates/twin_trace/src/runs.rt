@@ -6,7 +6,7 @@ ghost use Rattle.pe_image.specs.Images.{IsImage};
 ghost use Rattle.pe_image.specs.Mapped.{AreBytes};
 ghost use Rattle.run_trace.specs.Following.{HasEnded, world_under};
 ghost use Rattle.run_trace.specs.declared.telling.Program.{Program};
-ghost use Rattle.twin_trace.specs.BothTraces.{AreAfter, states_beside, step_beside, steps_beside};
+ghost use Rattle.twin_trace.specs.BothTraces.{AreBothAfter, states_beside, step_beside, steps_beside};
 
 use ebc_base::NoMemory;
 use run_trace::{Program, TracedRun};
@@ -31,7 +31,7 @@ impl BothRuns {
         requires bytes { AreBytes program.image.now }
         requires notes { IsNotes program.notes.now }
         requires script { IsScript program.notes.now program.script.now }
-        ensures { IfOk result (AreAfter program.entry 0) }
+        ensures { IfOk result (AreBothAfter program.entry 0) }
     {
         let at4 = TracedRun::start(alloc, program)?;
         let at8 = TracedRun::start(alloc, program)?;
@@ -40,7 +40,7 @@ impl BothRuns {
 
     // Whether one of them goes on.
     fn go_on(&self) -> bool
-        ensures { (program : Program) (taken : ℕ) → AreAfter program taken self.now → result ≡ false →
+        ensures { (program : Program) (taken : ℕ) → AreBothAfter program taken self.now → result ≡ false →
             HasEnded 4 program taken × HasEnded 8 program taken }
     {
         if self.at4.goes_on() {
@@ -55,8 +55,8 @@ impl BothRuns {
     ///
     /// There is no memory for what is open.
     pub fn pass(&mut self, program: Program, taken: u64, last: u64) -> Result<(), NoMemory>
-        requires { AreAfter program taken self.old }
-        ensures { OnOk result (AreAfter program.entry (max taken last) self.new) }
+        requires { AreBothAfter program taken self.old }
+        ensures { OnOk result (AreBothAfter program.entry (max taken last) self.new) }
     {
         let mut number = taken;
         while number < last && self.go_on() {
@@ -77,8 +77,8 @@ impl BothRuns {
     ) -> Result<(), NoMemory>
         requires image { IsImage program.image.now }
         requires few { taken < 2 ^ 64 - 1 }
-        requires before { AreAfter program taken self.old }
-        ensures after { OnOk result (AreAfter program.entry (taken + 1) self.new) }
+        requires before { AreBothAfter program taken self.old }
+        ensures after { OnOk result (AreBothAfter program.entry (taken + 1) self.new) }
         ensures text { OnOk result
             (out.new.items ≡ out.old.items ++ step_beside program.entry.image.now (world_under program.entry) (taken + 1)) }
     {
@@ -104,8 +104,8 @@ impl BothRuns {
         out: &mut Vec<u8>,
     ) -> Result<(), NoMemory>
         requires image { IsImage program.image.now }
-        requires before { AreAfter program taken self.old }
-        ensures after { OnOk result (AreAfter program.entry (max taken last) self.new) }
+        requires before { AreBothAfter program taken self.old }
+        ensures after { OnOk result (AreBothAfter program.entry (max taken last) self.new) }
         ensures text { OnOk result
             (out.new.items ≡ out.old.items ++ steps_beside program.entry.image.now (world_under program.entry) taken last) }
     {
@@ -132,8 +132,8 @@ impl BothRuns {
         requires bytes { AreBytes program.image.now }
         requires notes { IsNotes program.notes.now }
         requires script { IsScript program.notes.now program.script.now }
-        requires after { (taken : ℕ) × AreAfter program taken self.now }
-        ensures { OnOk result ((taken : ℕ) → AreAfter program.entry taken self.now →
+        requires after { (taken : ℕ) × AreBothAfter program taken self.now }
+        ensures { OnOk result ((taken : ℕ) → AreBothAfter program.entry taken self.now →
             out.new.items ≡ out.old.items ++ states_beside program.entry.image.now (world_under program.entry) taken) }
     {
         let mut at32 = Vec::new(alloc);

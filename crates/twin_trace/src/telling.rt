@@ -10,7 +10,8 @@ ghost use Rattle.twin_run.specs.Differs.{DifferAt};
 ghost use Rattle.twin_run.specs.Reported.{IsReport};
 ghost use Rattle.twin_run.specs.declared.reports.RunReport.{RunReport};
 ghost use Rattle.run_trace.specs.Following.{world_under};
-ghost use Rattle.twin_trace.specs.BothTraces.{AreAfter, HasEnds, IsBothText, end_of, last_told, steps_beside, told_lines, told_steps};
+ghost use Rattle.twin_trace.specs.BothTraces.{AreBothAfter, HasEnds, IsBothText, both_told_lines, last_line, last_told, steps_beside};
+ghost use Rattle.twin_trace.specs.BothTraces.{told_steps};
 
 use crate::runs::BothRuns;
 use ebc_base::NoMemory;
@@ -64,8 +65,8 @@ fn append_steps(
     out: &mut Vec<u8>,
 ) -> Result<(), NoMemory>
     requires image { IsImage program.image.now }
-    requires before { AreAfter program 0 runs.old }
-    ensures after { OnOk result (AreAfter program.entry last runs.new) }
+    requires before { AreBothAfter program 0 runs.old }
+    ensures after { OnOk result (AreBothAfter program.entry last runs.new) }
     ensures text { OnOk result
         (out.new.items ≡ out.old.items ++ steps_beside program.entry.image.now (world_under program.entry) passed last) }
 {
@@ -86,8 +87,8 @@ fn append_parting(
 ) -> Result<(), NoMemory>
     requires image { IsImage program.image.now }
     requires some { 0 < last }
-    requires before { AreAfter program 0 runs.old }
-    ensures after { OnOk result (AreAfter program.entry last runs.new) }
+    requires before { AreBothAfter program 0 runs.old }
+    ensures after { OnOk result (AreBothAfter program.entry last runs.new) }
     ensures text { OnOk result
         (out.new.items ≡ out.old.items ++ told_steps program.entry.image.now (world_under program.entry) first last (Some steps)) }
 {
@@ -110,8 +111,8 @@ fn append_told(
 ) -> Result<(), NoMemory>
     requires image { IsImage program.image.now }
     requires some { IfSome differ (λ _. 0 < last) }
-    requires before { AreAfter program 0 runs.old }
-    ensures after { OnOk result (AreAfter program.entry last runs.new) }
+    requires before { AreBothAfter program 0 runs.old }
+    ensures after { OnOk result (AreBothAfter program.entry last runs.new) }
     ensures text { OnOk result
         (out.new.items ≡ out.old.items ++ told_steps program.entry.image.now (world_under program.entry) first last differ) }
 {
@@ -136,7 +137,7 @@ fn append_lines(
     requires script { IsScript program.notes.now program.script.now }
     requires some { IfSome differ (λ _. 0 < last) }
     ensures { OnOk result
-        (out.new.items ≡ out.old.items ++ told_lines program.entry.image.now (world_under program.entry) first last differ) }
+        (out.new.items ≡ out.old.items ++ both_told_lines program.entry.image.now (world_under program.entry) first last differ) }
 {
     let mut runs = BothRuns::start(alloc, program)?;
     append_told(alloc, program, &mut runs, first, last, differ, out)?;
@@ -151,7 +152,7 @@ fn end_at<const W: usize>(alloc: Global, program: Program, last: u64) -> Result<
     requires notes { IsNotes program.notes.now }
     requires script { IsScript program.notes.now program.script.now }
     ensures { IfOk result (λ line. (report : RunReport) × IsReport W program.entry.image.now (world_under program.entry) last report
-        × (line.items ≡ end_of (world_under program.entry).notes report)) }
+        × (line.items ≡ last_line (world_under program.entry).notes report)) }
 {
     let mut line = Vec::new(alloc);
     let report = run::<W>(alloc, program.image, program.notes, program.script, last)?;

@@ -1,9 +1,9 @@
 use Rattle.std.proofs.Common.{◌≡◌, take, string_bytes}
 use Rattle.std.specs.List.{flat_map}
-use Rattle.code_places.specs.Places.{item_text}
+use Rattle.code_places.specs.Places.{place_line}
 use Rattle.code_places.proofs.line.places_text.Given as goal
 
 abbrev pub invariant-loop-item : goal.invariant-loop-item
 invariant-loop-item l = record {
-  text : string_bytes l.out ≡ flat_map (item_text l.image) (take l.item-index l.item-items);
+  text : string_bytes l.out ≡ flat_map (place_line l.image) (take l.item-index l.item-items);
 }

@@ -1,6 +1,6 @@
 use Rattle.std.proofs.Common.{◌<◌, arith, sym, subst}
 use Rattle.std.specs.Prelude.{IfSome}
-use Rattle.state_walk.specs.Standing.{GoesOn, StandsBefore}
+use Rattle.state_walk.specs.Standing.{GoesToNext, StandsBefore}
 use Rattle.image_warnings.specs.Spreading.{AreUncut}
 use Rattle.image_warnings.specs.Walks.{WarnedTo}
 use Rattle.image_warnings.proofs.Gathering.{gathered_start}
@@ -34,14 +34,14 @@ places-preserved c =
     let b = c.places.b in
     let m = meets w.image.now w.notes.now w.func w.f.now c.requires.walk c.requires.typed b i.stands in
     let stands = subst (λ o. IfSome o (StandsBefore w.image.now w.notes.now w.func w.f.now)) c.in-Some.is c.next-next.ensures.stands in
-    let goes = subst (GoesOn w.image.now w.notes.now w.func w.f.now b.place) c.in-Some.is c.next-next.ensures.goes_on in
+    let goes = subst (GoesToNext w.image.now w.notes.now w.func w.f.now b.place) c.in-Some.is c.next-next.ensures.goes_on in
     record {
       stands = stands;
       warned = subst (λ p. WarnedTo w.image.now w.notes.now w.func w.f.now p c.append_of.new.out.items) (sym (goes m))
           (passed w.image.now w.notes.now w.func w.f.now c.requires.walk c.requires.typed b i.stands
-          c.args.fields.now c.is_uncut.result c.insn_of.result c.places.out.items c.append_of.new.out.items c.requires.fields
+          c.args.fields.now c.is_uncut.result c.following_insn.result c.places.out.items c.append_of.new.out.items c.requires.fields
           c.is_uncut.ensures
-          (subst (StandsBehind w.image.now w.f.now m.next) (sym c.insn_of.ensures)
+          (subst (StandsBehind w.image.now w.f.now m.next) (sym c.following_insn.ensures)
           (behind_found w.image.now w.notes.now w.func w.f.now c.requires.walk c.requires.typed b i.stands
           c.next-next.result c.next-next.ensures.stands c.next-next.ensures.goes_on))
           i.warned c.in_ok-append_of.ensures);
@@ -53,12 +53,12 @@ returns-in-None c =
     let i = c.places.invariant in
     let b = c.places.b in
     let m = meets w.image.now w.notes.now w.func w.f.now c.requires.walk c.requires.typed b i.stands in
-    let goes = subst (GoesOn w.image.now w.notes.now w.func w.f.now b.place) c.in-None.is c.next-next.ensures.goes_on in
+    let goes = subst (GoesToNext w.image.now w.notes.now w.func w.f.now b.place) c.in-None.is c.next-next.ensures.goes_on in
     passed_all w.image.now w.notes.now w.func w.f.now c.requires.walk c.requires.typed b i.stands c.append_of.new.out.items (goes m)
     (passed w.image.now w.notes.now w.func w.f.now c.requires.walk c.requires.typed b i.stands
-    c.args.fields.now c.is_uncut.result c.insn_of.result c.places.out.items c.append_of.new.out.items c.requires.fields
+    c.args.fields.now c.is_uncut.result c.following_insn.result c.places.out.items c.append_of.new.out.items c.requires.fields
     c.is_uncut.ensures
-    (subst (StandsBehind w.image.now w.f.now m.next) (sym c.insn_of.ensures)
+    (subst (StandsBehind w.image.now w.f.now m.next) (sym c.following_insn.ensures)
     (behind_found w.image.now w.notes.now w.func w.f.now c.requires.walk c.requires.typed b i.stands
     c.next-next.result c.next-next.ensures.stands c.next-next.ensures.goes_on))
     i.warned c.in_ok-append_of.ensures)

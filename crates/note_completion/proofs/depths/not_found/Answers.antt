@@ -1,5 +1,5 @@
 use Rattle.std.proofs.Common.{refl, subst}
-use Rattle.stack_needs.specs.Calls.{HasCause}
+use Rattle.stack_needs.specs.Calls.{HasStackCause}
 use Rattle.note_completion.specs.Causes.{by_stack}
 use Rattle.note_completion.proofs.CauseLaws.{depths_rule, refused_rule}
 use Rattle.note_completion.proofs.depths.not_found.Goals as goal
@@ -10,4 +10,4 @@ returns-in-Uneven c =
     let draft = c.args.draft.now in
     depths_rule image draft c.refused.result
     (refused_rule image draft.notes c.in-Uneven.place _ c.refused.result c.refused.ensures
-    (by_stack (subst (HasCause image draft.notes) c.in-Uneven.is c.requires.cause) refl))
+    (by_stack (subst (HasStackCause image draft.notes) c.in-Uneven.is c.requires.cause) refl))

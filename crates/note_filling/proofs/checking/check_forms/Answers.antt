@@ -1,4 +1,4 @@
-use Rattle.note_filling.proofs.Common.{err_from_is_err_and, table_view, place_in}
+use Rattle.note_filling.proofs.Common.{err_from_is_err_and, table_view, context_place}
 use Rattle.note_filling.proofs.{CauseLaws.caused_form, CauseLaws.caused_label, CauseLaws.kept_in_place, CheckLaws.refuses_from}
 use Rattle.note_filling.proofs.CheckLaws.{refuses_notes}
 use Rattle.note_filling.proofs.checking.check_forms.Goals as goal
@@ -21,5 +21,5 @@ returns-in_err-check_draft-clause-labels c =
 pub returns-in_err-check_draft-clause-cause : goal.returns-in_err-check_draft-clause-cause
 returns-in_err-check_draft-clause-cause c =
     let p = err_from_is_err_and c.from_residual-in_err-check_draft.result c.from_residual-in_err-check_draft.ensures.1 in
-    rw (p.1, p.2) (caused_form _ _ (place_in c.args.context) (table_view c.args.table) (table_view c.in_ok-table.table)
+    rw (p.1, p.2) (caused_form _ _ (context_place c.args.context) (table_view c.args.table) (table_view c.in_ok-table.table)
     (kept_in_place _ _ _ c.in_ok-lists.lists c.in_ok-lists.ensures.kept c.in_ok-table.ensures) c.in_err-check_draft.ensures)

@@ -1,18 +1,20 @@
-use Rattle.note_filling.proofs.Common.{inr, map, refl, err_from_is_err_and, members_depth, table_view, view, place_in}
+use Rattle.note_filling.proofs.Common.{inr, map, refl, err_from_is_err_and, members_depth, table_view, view, context_place}
 use Rattle.note_filling.proofs.{CauseLaws.caused_label, CauseLaws.orders_of, CheckLaws.refuses_from, DepthLaws.beyond_limit}
 use Rattle.note_filling.proofs.TextLaws.{text_kept}
 use Rattle.note_filling.proofs.filling.fill.Goals as goal
 
 pub returns-clause-kept : goal.returns-clause-kept
 returns-clause-kept c =
-    text_kept (place_in c.args.context) (map view c.args.more.points.items) (map view c.args.more.sites.items) (table_view c.args.table)
+    text_kept (context_place c.args.context) (map view c.args.more.points.items) (map view c.args.more.sites.items)
+    (table_view c.args.table)
     (table_view c.in_ok-table.table) c.in_ok-lists.lists c.in_ok-arranged_lists.arranged_lists c.in_ok-lists.ensures.kept
     c.in_ok-arranged_lists.ensures.arranged
     c.in_ok-table.ensures
 
 pub returns-clause-orders : goal.returns-clause-orders
 returns-clause-orders c =
-    orders_of (place_in c.args.context) (map view c.args.more.points.items) (map view c.args.more.sites.items) (table_view c.args.table)
+    orders_of (context_place c.args.context) (map view c.args.more.points.items) (map view c.args.more.sites.items)
+    (table_view c.args.table)
     (table_view c.in_ok-table.table) c.in_ok-lists.lists c.in_ok-arranged_lists.arranged_lists c.in_ok-arranged_lists.orders
     c.in_ok-lists.ensures.kept c.in_ok-arranged_lists.ensures.arranged c.in_ok-arranged_lists.ensures.order c.in_ok-table.ensures
 
@@ -28,7 +30,7 @@ returns-in_err-lists-clause-cause c =
 
 pub returns-then-not-members_fit-clause-cause : goal.returns-then-not-members_fit-clause-cause
 returns-then-not-members_fit-clause-cause c =
-    let place = place_in c.args.context in
+    let place = context_place c.args.context in
     let points = map view c.args.more.points.items in
     let sites = map view c.args.more.sites.items in
     let new = table_view c.in_ok-table.table in

@@ -1,4 +1,4 @@
-use Rattle.note_filling.proofs.Common.{ap, codes, refl, err_from_is_err_and, option_and_then, as_str, table_view, place_in}
+use Rattle.note_filling.proofs.Common.{ap, codes, refl, err_from_is_err_and, option_and_then, as_str, table_view, context_place}
 use Rattle.note_filling.specs.Rows.{row_labels}
 use Rattle.note_filling.proofs.{CheckLaws.fails_first, CheckLaws.fails_then, CheckLaws.goes_then, RowLaws.kept_more, RowLaws.kept_two}
 use Rattle.note_filling.proofs.functions.fill_function.Goals as goal
@@ -24,7 +24,8 @@ returns-clause-labels c =
 
 pub returns-clause-kept : goal.returns-clause-kept
 returns-clause-kept c =
-    kept_more (place_in c.args.rows.context) _ (table_view c.args.row.now) (table_view c.put_end.new.row) (table_view c.fill_left.new.row)
-    (kept_two (place_in c.args.rows.context) (codes "place") (codes "end") (table_view c.args.row.now) (table_view c.put_place.new.row)
+    kept_more (context_place c.args.rows.context) _ (table_view c.args.row.now) (table_view c.put_end.new.row)
+    (table_view c.fill_left.new.row)
+    (kept_two (context_place c.args.rows.context) (codes "place") (codes "end") (table_view c.args.row.now) (table_view c.put_place.new.row)
     (table_view c.put_end.new.row) refl refl c.in_ok-place.ensures.replaced c.in_ok-put_end.ensures.replaced)
     c.in_ok-fill_left.ensures

@@ -1,4 +1,4 @@
-use Rattle.note_filling.proofs.Common.{map, subst, sym, All, Data, view, Stands, Ranked}
+use Rattle.note_filling.proofs.Common.{map, subst, sym, All, Data, view, StoodAmong, Ranked}
 use Rattle.std.proofs.{Common.IsPermutation, lemmas.List.Sorted.All-permutation, lemmas.List.Sorted.IsPermutation-map}
 use Rattle.note_filling.proofs.OrderLaws.{order_by}
 use Rattle.note_filling.proofs.order.by_place.Goals as goal
@@ -17,6 +17,6 @@ pub returns-clause-order : goal.returns-clause-order
 returns-clause-order c =
     let items = map view c.args.items.items in
     let sorted = c.sort_by_key.new.self.items in
-    let stood : All (Stands items) sorted =
-    All-permutation (Stands items) c.in_ok-all.all.items sorted c.in_ok-sort_by_key.ensures.permutation c.in_ok-all.ensures.stood in
+    let stood : All (StoodAmong items) sorted =
+    All-permutation (StoodAmong items) c.in_ok-all.all.items sorted c.in_ok-sort_by_key.ensures.permutation c.in_ok-all.ensures.stood in
     rw (c.in_ok-parts.ensures.order, c.in_ok-parts.ensures.values) (order_by items sorted stood)

@@ -1,9 +1,9 @@
-use Rattle.note_filling.proofs.Common.{◌≡◌, All, map, view, Stands, Ranked}
+use Rattle.note_filling.proofs.Common.{◌≡◌, All, map, view, StoodAmong, Ranked}
 use Rattle.note_filling.proofs.order.with_places.Given as goal
 
 abbrev pub invariant-loop-value : goal.invariant-loop-value
 invariant-loop-value l =
     record {
       values : map (λ (r : Ranked). view r.value) l.all.items ≡ map view l.yielded;
-      stood : All (Stands (map view l.yielded)) l.all.items;
+      stood : All (StoodAmong (map view l.yielded)) l.all.items;
     }

@@ -1,4 +1,5 @@
-use Rattle.note_filling.proofs.Common.{ap, sym, ◌∙◌, option_and_then, path_of, as_str, table_view, text_in, label_of, labels_in, names_in}
+use Rattle.note_filling.proofs.Common.{ap, sym, ◌∙◌, option_and_then, path_of, as_str, table_view, text_at_key, labelled_place}
+use Rattle.note_filling.proofs.Common.{context_labels, context_names}
 use Rattle.note_filling.proofs.PlaceLaws.{replaced_by}
 use Rattle.note_filling.proofs.rows.replace_label.Goals as goal
 
@@ -6,9 +7,9 @@ pub returns-clause-replaced : goal.returns-clause-replaced
 returns-clause-replaced c =
     let row = table_view c.args.row.now in
     let key = c.args.key.now in
-    let names = names_in c.args.context in
-    let labels = labels_in c.args.context in
+    let names = context_names c.args.context in
+    let labels = context_labels c.args.context in
     let path = path_of c.args.finding in
-    replaced_by c.args.code names labels path key (text_in key row) c.in_ok-placed.placed row (table_view c.put_placed.new.table)
-    (ap (label_of c.args.code names labels path) (sym c.text_at.ensures) ∙ c.in_ok-placed.ensures.gives)
+    replaced_by c.args.code names labels path key (text_at_key key row) c.in_ok-placed.placed row (table_view c.put_placed.new.table)
+    (ap (labelled_place c.args.code names labels path) (sym c.text_at.ensures) ∙ c.in_ok-placed.ensures.gives)
     (λ d there. sym (ap (option_and_then as_str) there)) c.in_ok-put_placed.ensures

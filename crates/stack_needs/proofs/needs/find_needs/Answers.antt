@@ -1,4 +1,4 @@
-use Rattle.stack_needs.proofs.Common.{ℕ, List, subst, sym, err_from_is_err_and, Calls, Sees, Walked}
+use Rattle.stack_needs.proofs.Common.{ℕ, List, subst, sym, err_from_is_err_and, CallsFunction, Sees, Walked}
 use Rattle.stack_needs.proofs.WayLaws.{cause-search}
 use Rattle.stack_needs.proofs.needs.find_needs.Goals as goal
 
@@ -8,7 +8,7 @@ returns-in_err-order-clause-cause c =
     let image = c.args.image.now in
     let notes = c.args.notes.now in
     rw (p.1, p.2) (cause-search image notes c.as_slice-2.result.now _
-    (subst (λ (ws : List Walked). (k j : ℕ) → Sees ws k j → Calls image notes k j) (sym c.as_slice-2.ensures.value)
+    (subst (λ (ws : List Walked). (k j : ℕ) → Sees ws k j → CallsFunction image notes k j) (sym c.as_slice-2.ensures.value)
     c.in_ok-walks.ensures.calls)
     c.in_err-order.ensures)
 
@@ -18,6 +18,6 @@ returns-in_err-order-2-clause-cause c =
     let image = c.args.image.now in
     let notes = c.args.notes.now in
     rw (p.1, p.2) (cause-search image notes c.as_slice-6.result.now _
-    (subst (λ (ws : List Walked). (k j : ℕ) → Sees ws k j → Calls image notes k j) (sym c.as_slice-6.ensures.value)
+    (subst (λ (ws : List Walked). (k j : ℕ) → Sees ws k j → CallsFunction image notes k j) (sym c.as_slice-6.ensures.value)
     c.in_ok-walks.ensures.calls)
     c.in_err-order-2.ensures)

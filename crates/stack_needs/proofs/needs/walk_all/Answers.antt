@@ -1,4 +1,4 @@
-use Rattle.stack_needs.proofs.Common.{ℕ, List, [], ◌∷◌, ap, arith, length, subst, sym, err_from_is_err_and, Calls, Sees, Walked}
+use Rattle.stack_needs.proofs.Common.{ℕ, List, [], ◌∷◌, ap, arith, length, subst, sym, err_from_is_err_and, CallsFunction, Sees, Walked}
 use Rattle.std.proofs.Common.{length-append}
 use Rattle.note_infer.proofs.Gathering.{function_there, has_code}
 use Rattle.stack_needs.proofs.WayLaws.{cause-walk, sees-more, sees-none}
@@ -13,7 +13,7 @@ walk-requires-clause-code c =
 pub loop-f-init : goal.loop-f-init
 loop-f-init c = record {
   count = ap length c.new-walks.ensures.items;
-  calls = subst (λ (ws : List Walked). (k j : ℕ) → Sees ws k j → Calls c.args.image.now c.args.notes.now k j)
+  calls = subst (λ (ws : List Walked). (k j : ℕ) → Sees ws k j → CallsFunction c.args.image.now c.args.notes.now k j)
       (sym c.new-walks.ensures.items) (sees-none c.args.image.now c.args.notes.now);
 }
 
@@ -28,7 +28,7 @@ loop-f-preserved c =
     let whole = ap length c.in_ok-push.ensures.items in
     record {
       count = let before = c.loop-f.invariant.count in omega (arith, more, whole);
-      calls = subst (λ (ws : List Walked). (k j : ℕ) → Sees ws k j → Calls image notes k j) (sym c.in_ok-push.ensures.items)
+      calls = subst (λ (ws : List Walked). (k j : ℕ) → Sees ws k j → CallsFunction image notes k j) (sym c.in_ok-push.ensures.items)
           (sees-more image notes walks c.in_ok-walk.field-0 c.f-item.result c.loop-f.f-index c.loop-f.invariant.count there
           c.in_ok-walk.ensures.calls c.loop-f.invariant.calls);
     }

@@ -1,4 +1,4 @@
-use Rattle.stack_needs.proofs.Common.{subst, sym, err_from_is_err_and, AreCalls, Comes, Depth}
+use Rattle.stack_needs.proofs.Common.{subst, sym, err_from_is_err_and, AreCalls, HasWay, Depth}
 use Rattle.stack_needs.specs.declared.walk.Course.{Course}
 use Rattle.stack_needs.proofs.{WayLaws.comes-first, walk.walk.Goals.else-loop-test, walk.walk.Goals.then-loop-test+in_default}
 use Rattle.stack_needs.proofs.walk.walk.Goals as goal
@@ -9,7 +9,7 @@ reach-requires-clause-course c = c.in_ok-course.ensures.begun c.args.image.now c
 pub reach-requires-clause-comes : goal.reach-requires-clause-comes
 reach-requires-clause-comes c =
     let f = c.args.f.now in
-    subst (λ (d : Depth). Comes c.args.image.now f f.place d) (sym c.none.ensures) (comes-first c.args.image.now f)
+    subst (λ (d : Depth). HasWay c.args.image.now f f.place d) (sym c.none.ensures) (comes-first c.args.image.now f)
 
 pub returns-in_err-course-clause-ends : goal.returns-in_err-course-clause-ends
 returns-in_err-course-clause-ends c =

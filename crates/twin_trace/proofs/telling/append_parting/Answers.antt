@@ -1,7 +1,7 @@
 use Rattle.std.proofs.Common.{◌≡◌, ◌-◌, arith, max, rules, subst}
 use Rattle.std.proofs.lemmas.Result.{on_ok_weaker}
 use Rattle.run_trace.specs.Following.{world_under}
-use Rattle.twin_trace.specs.BothTraces.{AreAfter}
+use Rattle.twin_trace.specs.BothTraces.{AreBothAfter}
 use Rattle.twin_trace.proofs.BothLaws.{parting-told}
 use Rattle.twin_trace.proofs.telling.append_parting.Goals as goal
 
@@ -11,7 +11,7 @@ tell-requires-clause-before c = c.in_ok-append_steps.ensures.after
 pub returns-clause-after : goal.returns-clause-after
 returns-clause-after c =
     let same : max (c.args.last - 1) c.args.last ≡ c.args.last = omega arith in
-    on_ok_weaker c.tell.result (subst (λ n. AreAfter c.args.program n c.tell.new.self) same) c.tell.ensures.after
+    on_ok_weaker c.tell.result (subst (λ n. AreBothAfter c.args.program n c.tell.new.self) same) c.tell.ensures.after
 
 pub returns-clause-text : goal.returns-clause-text
 returns-clause-text c =

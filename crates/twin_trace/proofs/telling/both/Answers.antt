@@ -1,6 +1,6 @@
 use Rattle.std.proofs.Common.{◌++◌, ap, ◌∙◌}
 use Rattle.host_model.specs.Runs.{world_of}
-use Rattle.twin_trace.specs.BothTraces.{told_lines}
+use Rattle.twin_trace.specs.BothTraces.{both_told_lines}
 use Rattle.twin_trace.proofs.BothLaws.{has-ends, some-told}
 use Rattle.twin_trace.proofs.telling.both.Goals as goal
 
@@ -22,7 +22,7 @@ returns c =
       parts = c.in_ok-differ.ensures;
       ends = has-ends image world _ _ _ _ _ c.last_told-last.ensures
           (c.in_ok-append_lines.ensures
-          ∙ (ap (λ t. t ++ told_lines image world c.args.first c.last_told-last.result c.in_ok-differ.differ) c.new-out.ensures.items
-          ∙ ap (λ l. told_lines image world c.args.first l c.in_ok-differ.differ) c.last_told-last.ensures))
+          ∙ (ap (λ t. t ++ both_told_lines image world c.args.first c.last_told-last.result c.in_ok-differ.differ) c.new-out.ensures.items
+          ∙ ap (λ l. both_told_lines image world c.args.first l c.in_ok-differ.differ) c.last_told-last.ensures))
           c.in_ok-append_ends.ensures;
     }

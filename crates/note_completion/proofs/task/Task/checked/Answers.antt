@@ -1,7 +1,7 @@
 use Rattle.std.proofs.Common.{string_bytes}
 use Rattle.std.proofs.lemmas.Result.{err_from_is_err_and}
 use Rattle.toml.specs.View.{table_view}
-use Rattle.note_completion.specs.Halts.{place_in}
+use Rattle.note_completion.specs.Halts.{task_place}
 use Rattle.note_completion.proofs.CauseLaws.{caused_checked, caused_printing, printed_of}
 use Rattle.note_completion.proofs.HaltLaws.{completed}
 use Rattle.note_completion.proofs.task.Task.checked.Goals as goal
@@ -19,7 +19,7 @@ returns-in_err-text-clause-cause c =
 
 pub returns-in-Ok-clause-whole : goal.returns-in-Ok-clause-whole
 returns-in-Ok-clause-whole c =
-    completed c.args.self.linked.image.now (place_in c.args.self) c.args.self.text.now (string_bytes c.in_ok-text.text) _ _
+    completed c.args.self.linked.image.now (task_place c.args.self) c.args.self.text.now (string_bytes c.in_ok-text.text) _ _
     (table_view c.in_ok-filled.filled.table) c.in_ok-filled.ensures.arranged.filled c.in_ok-text.ensures.shown
     (rw c.as_str.ensures.value at c.in-Ok.ensures.checked)
 

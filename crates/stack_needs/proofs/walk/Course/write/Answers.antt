@@ -1,4 +1,4 @@
-use Rattle.stack_needs.proofs.Common.{List, subst, sym, IsReached}
+use Rattle.stack_needs.proofs.Common.{List, subst, sym, IsReachedPlace}
 use Rattle.std.proofs.{Common.All, lemmas.List.Elements.All-push}
 use Rattle.stack_needs.specs.declared.walk.Reached.{Reached}
 use Rattle.stack_needs.proofs.WayLaws.{written-more}
@@ -12,7 +12,7 @@ returns-clause-course c =
     record {
       at = written-more image f c.args.self.now.at.items c.args.slot c.args.reached.place c.args.reached.depth before.at c.requires.place
           c.requires.comes;
-      pending = subst (λ (rs : List Reached). All (IsReached image f) rs) (sym c.in_ok-push.ensures.items)
-          (All-push (IsReached image f) c.args.self.now.pending.items c.args.reached before.pending c.requires.comes);
+      pending = subst (λ (rs : List Reached). All (IsReachedPlace image f) rs) (sym c.in_ok-push.ensures.items)
+          (All-push (IsReachedPlace image f) c.args.self.now.pending.items c.args.reached before.pending c.requires.comes);
       calls = before.calls;
     }

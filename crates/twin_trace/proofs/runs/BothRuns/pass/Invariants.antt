@@ -1,10 +1,10 @@
 use Rattle.std.proofs.Common.{◌-◌, ◌≤◌, max}
-use Rattle.twin_trace.specs.BothTraces.{AreAfter}
+use Rattle.twin_trace.specs.BothTraces.{AreBothAfter}
 use Rattle.twin_trace.proofs.runs.BothRuns.pass.Given as goal
 
 abbrev pub invariant-loop-number : goal.invariant-loop-number
 invariant-loop-number l = record {
-  at : AreAfter l.program l.number l.self;
+  at : AreBothAfter l.program l.number l.self;
   least : l.taken ≤ l.number;
   most : l.number ≤ max l.taken l.last;
 }

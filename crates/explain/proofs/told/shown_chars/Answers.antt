@@ -4,7 +4,7 @@ use Rattle.std.proofs.lemmas.Iterator.Consumers.{YieldsList-turn, YieldsList-end
 use Rattle.std.proofs.lemmas.List.{length_push}
 use Rattle.std.specs.Str.{chars}
 use Rattle.explain.proofs.ShownLaws.{char-shown, joined-shown, shown-done, shown-more}
-use Rattle.explain.proofs.told.shown.Goals as goal
+use Rattle.explain.proofs.told.shown_chars.Goals as goal
 
 pub loop-c-preserved : goal.loop-c-preserved
 loop-c-preserved c =
