@@ -47,10 +47,18 @@ returns-clause-report g c =
 
 pub append_state-requires : goal.append_state-requires
 append_state-requires g c =
-    let told = c.loop-taken.invariant in
-    let after = record { there = told.way.there; calls = told.calls } in (
+    let told = c.loop-taken.invariant in (
       omega arith,
-      (c.requires.width, (c.requires.image, (c.requires.bytes, (c.requires.notes, (c.requires.script, (c.loop-taken.taken, after)))))),
+      (
+        c.requires.width,
+        (
+          c.requires.image,
+          (
+            c.requires.bytes,
+            (c.requires.notes, (c.requires.script, (c.loop-taken.taken, record { there = told.way.there; calls = told.calls }))),
+          ),
+        ),
+      ),
     )
 
 pub returns-clause-text : goal.returns-clause-text

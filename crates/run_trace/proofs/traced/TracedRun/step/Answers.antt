@@ -7,8 +7,8 @@ use Rattle.run_trace.proofs.ToldLaws.{after-end, after-next}
 use Rattle.run_trace.proofs.TraceLaws.{runs-of}
 use Rattle.run_trace.proofs.traced.TracedRun.step.Goals as goal
 
-pub next_back-requires : goal.next_back-requires
-next_back-requires g c =
+pub next_back-back-requires : goal.next_back-back-requires
+next_back-back-requires g c =
     let p = c.args.program in
     let there = c.requires.after.1.there in (
       omega arith,
