@@ -96,10 +96,16 @@ stop_build() {
 # (The functions from here on are called by `build` alone, and each has the names of the one that calls it.)
 
 make_current() {
-  local name=$1 out=$top/crates/$1/out next=0
+  # (an earlier kit keeps nothing of a build that is stopped)
+  local name=$1 out=$top/crates/$1/out next=0 least=rattle-kit-13f kit
   is_current "$name" && return
   if ! command -v rt >/dev/null; then
-    echo "$name: its proofs need the command rt of the Rattle kit, rattle-kit-13 or later, on the PATH: install that first" >&2
+    echo "$name: its proofs need the command rt of the Rattle kit, $least or later, on the PATH: install that first" >&2
+    return 1
+  fi
+  kit=$(rt version 2>/dev/null)
+  if [ "$(printf '%s\n' "${kit%% *}" "$least" | sort -V | head -n 1)" != "$least" ]; then
+    echo "$name: its proofs need the Rattle kit $least or later, and the command rt is that of ${kit:-an unknown kit}: install that first" >&2
     return 1
   fi
 
