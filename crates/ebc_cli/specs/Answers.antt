@@ -174,7 +174,7 @@ pub record PairsImages (words : List (List ℕ)) (files : Files) (a b : ReadDriv
 -- ---- what `neutral` means
 
 -- The image is the same at both widths: for every text that stands for a script under the notes, all valid placements and every number
--- of steps, the runs at 4 and at 8 bytes an address are the same, and have raised nothing but a division by zero.
+-- of steps, the runs at 4 and at 8 bytes an address are the same, have the same cells, and have raised nothing but a division by zero.
 abbrev pub SameForScripts : Image → Notes → Type 0
 SameForScripts image notes =
     (text : List ℕ) (script : Script) (P Q : Placement) (k : ℕ) → script_of notes text ≡ Ok script
@@ -182,7 +182,8 @@ SameForScripts image notes =
     → AreSameAfter (world_of image notes script) image P Q k
 
 -- A pair is the same at both widths: for all texts that stand for scripts under the notes of the two, all valid placements and every number
--- of steps, the runs at 4 and at 8 bytes an address are the same, and have raised nothing but a division by zero.
+-- of steps, the runs at 4 and at 8 bytes an address are the same, have the same cells while they go on, and have raised nothing but a
+-- division by zero.
 abbrev pub SamePairForScripts : (a b : ReadDriver) → List Bind → Type 0
 SamePairForScripts a b binds =
     (a_text b_text : List ℕ) (x y : Script) (P Q : Both Placement) (k : ℕ) → script_of a.notes a_text ≡ Ok x

@@ -14,7 +14,11 @@ use Rattle.pair_laws.specs.{PairLaw.PairFollows, PairLaw.PairsAreSame, PairLaw.P
 use Rattle.pair_model.specs.{PairRuns.pair_spot, PairRuns.side_spot, Pairs.Side, Pairs.running_side, Rules.pair_start, Rules.step_if}
 use Rattle.step_sound.proofs.{Keeping.holds_of, Keeping.start_meets, Read.read_is_run, Read.read_is_run_at}
 use Rattle.step_sound.specs.Invariant.{RunHolds}
-use Rattle.invariant_laws.specs.Laws.{states_by}
+use Rattle.invariant_laws.specs.{Laws.states_by, Sound.SoundBelow}
+use Rattle.invariant_laws.proofs.Same.{cells_of_live}
+use Rattle.neutral_machine.specs.Memory.{memory_of}
+use Rattle.twin_run.specs.Behaviour.{cell_seen}
+use Rattle.twin_run.proofs.CellsSeen.{cell_shown, neutral_cell}
 use Rattle.pair_laws.proofs.Joining.{Ready, StageHolds, PairHolds, Goes, own_goes, enter_goes, b_goes, reply_goes, reply_known, world_b}
 use Rattle.pair_laws.proofs.{Calling.a_goes, Crossing.enter_well, SideSteps.side_steps, Steps.pair_step_keeps_standing}
 use Rattle.note_types.specs.declared.ending.Ending.TheVariants as ending
@@ -53,6 +57,15 @@ module _ (images : Both Image) (world : PairWorld) (sa sb : States) (t : TypedPa
     room = sound_room w world.a p.a h x.0.holds.sound;
     value = λ e. reply_known images world sa sb t.a t.b p.a.script g v x.3 e;
   }
+
+  -- both sides are sound while the pair runs
+  sides_sound : (p : PairState Config) (s : Stage) → StageHolds images world sa sb t.a t.b p s → SoundBelow world.a p.a
+      × SoundBelow world.b p.b
+  sides_sound p ProviderRuns x = (x.0.holds.sound, x.1.holds.sound)
+  sides_sound p CallerRuns x = (x.0.holds.sound, x.1.sound)
+  sides_sound p (CallTaken g f vs) x = (x.0.holds.sound, x.2.rests.sound)
+  sides_sound p (CallRuns g) x = (x.0.holds.sound, x.2.holds.sound)
+  sides_sound p (CallReturned g v) x = (x.0.holds.sound, x.2.sound)
 
   -- ---- a step is there
 
@@ -146,6 +159,18 @@ module _ (images : Both Image) (world : PairWorld) (sa sb : States) (t : TypedPa
     pub pair_follows : (k : ℕ) → PairFollows w images world P k
     pair_follows k = let x = after k in record { pair = x.pair; reached = x.reached; stands = x.stands; raised = x.holds.raised }
 
+    -- what the cells of both images' objects are read as, while the pair runs
+    cells_shown : (k : ℕ) (x : HoldsAfter w P k) → x.pair.ending ≡ ending.Running → ((o i f : ℕ)
+        → cell_seen w world.a P.a (pair_run w world P images k).a o i f ≡ neutral_cell world.a x.pair.a o i f)
+        × ((o i f : ℕ) → cell_seen w world.b P.b (pair_run w world P images k).b o i f ≡ neutral_cell world.b x.pair.b o i f)
+    cells_shown k x on =
+        let s = sides_sound x.pair x.pair.stage (x.holds.on on) in (
+          cell_shown w images.a world.a P.a h t.a.read placed.a x.pair.a _ x.stands.a
+              (cells_of_live world.a.notes (memory_of world.a x.pair.a) s.0.cells) (sound_room w world.a x.pair.a h s.0),
+          cell_shown w images.b world.b P.b h t.b.read placed.b x.pair.b _ x.stands.b
+              (cells_of_live world.b.notes (memory_of world.b x.pair.b) s.1.cells) (sound_room w world.b x.pair.b h s.1),
+        )
+
     -- where the side stands that runs is where it does in the neutral pair
     pub pair_spot_is : (p : PairState Config) (q : PairState RunState) → PairStands w images world P p q
         → pair_spot world P q ≡ neutral_pair_spot p
@@ -161,8 +186,8 @@ module _ (images : Both Image) (world : PairWorld) (sa sb : States) (t : TypedPa
 
   pub pair_is_same : (P Q : Both Placement) (k : ℕ) → ArePlaced 4 world P → ArePlaced 8 world Q → SamePairAfter images world P Q k
   pair_is_same P Q k p q =
-      let x = pair_follows 4 P (inl refl) p k in
-      let y = pair_follows 8 Q (inr refl) q k in
+      let x = after 4 P (inl refl) p k in
+      let y = after 8 Q (inr refl) q k in
       let one : y.pair ≡ x.pair = same_Some y.pair x.pair (sym y.reached ∙ x.reached) in
       let s = x.stands in
       let u = subst (λ c. PairStands 8 images world Q c (pair_run 8 world Q images k)) one y.stands in
@@ -173,7 +198,14 @@ module _ (images : Both Image) (world : PairWorld) (sa sb : States) (t : TypedPa
           trace = s.trace ∙ sym u.trace;
           ending = s.ending ∙ sym u.ending;
         };
-        raised = subst RaisesOnlyDivideError (sym s.ending) x.raised;
+        cells = λ on.
+            let running : x.pair.ending ≡ ending.Running = sym s.ending ∙ on in
+            let c = cells_shown 4 P (inl refl) p k x running in
+            let d = cells_shown 8 Q (inr refl) q k y (ap (λ (z : PairState Config). z.ending) one ∙ running) in (
+              λ o i f. c.0 o i f ∙ ap (λ (z : PairState Config). neutral_cell world.a z.a o i f) (sym one) ∙ sym (d.0 o i f),
+              λ o i f. c.1 o i f ∙ ap (λ (z : PairState Config). neutral_cell world.b z.b o i f) (sym one) ∙ sym (d.1 o i f),
+            );
+        raised = subst RaisesOnlyDivideError (sym s.ending) x.holds.raised;
       }
 
 -- ---- the laws

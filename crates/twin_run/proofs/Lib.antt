@@ -1,6 +1,7 @@
 pub mod Common
 pub mod BeginningLaws
 pub mod BoundLaws
+pub mod CellsSeen
 pub mod DriverImage
 pub mod DriverNotes
 pub mod DriverScript
@@ -17,6 +18,7 @@ pub mod Read
 pub mod RoomLaws
 pub mod RunnerLaws
 pub mod Runs
+pub mod TextRuns
 pub mod ThunkSteps
 pub mod TurnLaws
 pub mod SameEvents

@@ -1,3 +1,4 @@
+pub mod Behaviour
 pub mod Headline
 pub mod Differs
 pub mod OwnPlacement

@@ -15,7 +15,8 @@ use Rattle.neutral_machine.specs.NeutralRun.{config_after}
 use Rattle.host_model.specs.Runs.{run_of}
 use Rattle.width_checker.specs.Typed.{Typed}
 use Rattle.twin_run.specs.Differs.{DifferAt}
-use Rattle.twin_run.specs.Headline.{AreSameAfter}
+use Rattle.twin_run.specs.Behaviour.{Behaviour}
+use Rattle.twin_run.specs.Headline.{AreSameAfter, ShowsAlways}
 use Rattle.twin_run.specs.StatesOf.{states_of}
 
 -- The world of a run of what was read, where the image is typed under the notes.
@@ -39,8 +40,12 @@ MachinesFollow =
     → (a : Config) × (config_after world image k ≡ Some a) × Invariant w image world P (states_of image world.notes) a
     (run_of w world P image k)
 
--- At both widths: the runs are the same after every number of steps, each under a valid placement of its own, and raise nothing but a
--- division by zero.
+-- So at either width and under every valid placement the runs show one behaviour, and raise nothing but a division by zero.
+abbrev pub TypedRunsAsOne : Type 0
+TypedRunsAsOne = (image : Image) (world : World) → IsTypedWorld image world → (b : ℕ → Behaviour) × ShowsAlways image world b
+
+-- At both widths: the runs are the same after every number of steps, each under a valid placement of its own, hold the same in memory, and
+-- raise nothing but a division by zero.
 abbrev pub TypedRunsAreSame : Type 0
 TypedRunsAreSame =
     (image : Image) (world : World) (P Q : Placement) (k : ℕ) → IsTypedWorld image world → IsPlacement 4 world P → IsPlacement 8 world Q

@@ -4,10 +4,11 @@
 //! Promises:
 //!
 //! - `check`: the verdict on an image under notes, as `width_checker` gives it (`verdict`, `neutral`, `refused`).
-//!   `alike`: where it is neutral, the runs of the image are the same at both widths, for every script under the notes,
-//!   all valid placements and every number of steps, and have raised nothing but a division by zero
-//!   (`SameAtBothWidths`). The image is one that was read: it is asked to be well formed (`IsImage`) and to have a byte
-//!   at each place (`AreBytes`).
+//!   `as_one`: where it is neutral, all runs of the image show one behaviour, memory and all, for every script under the
+//!   notes, whatever the width, the valid placement and the number of steps, and have raised nothing but a division by
+//!   zero (`RunsAsOne`). `alike`: so they are the same at both widths, and hold the same in memory (`SameAtBothWidths`).
+//!   The image is one that was read: it is asked to be well formed (`IsImage`) and to have a byte at each place
+//!   (`AreBytes`).
 //! - `start`: the runner of a run of an image under notes and with a script, all of which were read, at the state
 //!   before the first step (`IsRunner`, `run_of`). It fails only where there is no memory; no other call takes any. The
 //!   image needn't be one that is checked. It has taken no step (`taken`).
@@ -37,13 +38,14 @@
 //!   that the two show, but of the events only the new ones. Once the runs part each goes on by itself.
 //! - `machines_follow`: in a typed image the neutral machine is never stuck, and at either width, under every valid
 //!   placement, after every number of steps, the run meets the invariant beside it (`MachinesFollow`).
-//! - `typed_runs_are_same`: the runs of a typed image at 4 and at 8 bytes are the same after every number of steps,
-//!   under all valid placements (`placed`) and so under those that this project takes (`own`); the least number of
-//!   steps after which they differ, up to any limit, is none (`never`).
+//! - `typed_runs_are_same`: all runs of a typed image show one behaviour (`as_one`). Those at 4 and at 8 bytes are the
+//!   same after every number of steps, under all valid placements (`placed`) and so under those that this project takes
+//!   (`own`); the least number of steps after which they differ, up to any limit, is none (`never`).
 //! - `own_placement_is_valid`: the placement that this project takes is valid at either width, where all objects of the
 //!   script take at most 8 MiB with their padding and gaps.
 //! - `typed_premises_are_met`: there are an image, notes and a script such as readers give, of which the image is
 //!   typed, and whose run comes to each kind of step and finishes.
+//! - `cells_tell_more`: there are runs of an image that are the same and don't hold the same in memory.
 #![tactic(auto)]
 
 mod bound;
@@ -63,10 +65,10 @@ ghost use Rattle.note_types.specs.Records.{IsNotes};
 ghost use Rattle.note_types.specs.declared.rule.RuleName.{RuleName};
 ghost use Rattle.pe_image.specs.Images.{IsImage};
 ghost use Rattle.pe_image.specs.Mapped.{AreBytes};
-ghost use Rattle.twin_run.specs.Headline.{SameAtBothWidths};
-ghost use Rattle.twin_run.specs.Met.{TypedPremisesAreMet};
+ghost use Rattle.twin_run.specs.Headline.{RunsAsOne, SameAtBothWidths};
+ghost use Rattle.twin_run.specs.Met.{CellsTellMore, TypedPremisesAreMet};
 ghost use Rattle.twin_run.specs.OwnPlacement.{OwnPlacementIsValid};
-ghost use Rattle.twin_run.specs.TypedRuns.{MachinesFollow, OwnTypedRunsAreSame, TypedNeverDiffer, TypedRunsAreSame};
+ghost use Rattle.twin_run.specs.TypedRuns.{MachinesFollow, OwnTypedRunsAreSame, TypedNeverDiffer, TypedRunsAreSame, TypedRunsAsOne};
 ghost use Rattle.width_checker.specs.Typed.{Typed};
 ghost use Rattle.width_checker.specs.Verdicts.{IsRefused, IsVerdict};
 
@@ -83,7 +85,8 @@ pub use two_runs::twin;
 use width_checker::Verdict;
 
 /// The verdict on an image under notes, as `width_checker::check` gives it. Where it is neutral, the runs of the image on the modelled
-/// host are the same at both widths: for every script that is read under the notes, all valid placements and every number of steps.
+/// host show one behaviour, memory and all, for every script that is read under the notes, whatever the width, the valid placement and the
+/// number of steps. So they are the same at both widths.
 ///
 /// # Errors
 ///
@@ -96,6 +99,7 @@ pub fn check(alloc: Global, image: &Image, notes: &Notes) -> Result<Verdict, NoM
     ensures neutral { IfOk result (λ v. v ≡ Verdict.Neutral ↔ Typed image.now notes.now) }
     ensures refused { IfOk result (λ v. (place : ℕ) (rule : RuleName) →
         v ≡ Verdict.Refused place rule ↔ IsRefused image.now notes.now place rule) }
+    ensures as_one { IfOk result (λ v. v ≡ Verdict.Neutral → RunsAsOne image.now notes.now) }
     ensures alike { IfOk result (λ v. v ≡ Verdict.Neutral → SameAtBothWidths image.now notes.now) }
 {
     width_checker::check(alloc, image, notes)
@@ -107,9 +111,11 @@ pub fn machines_follow()
     ensures { MachinesFollow }
 {}
 
-/// So the runs at 4 and at 8 bytes are the same after every number of steps, and raise nothing but a division by zero: under all valid
-/// placements, and so under those that this project takes. Up to no limit is there a number of steps after which they differ.
+/// So all runs show one behaviour, memory and all, and raise nothing but a division by zero. The runs at 4 and at 8 bytes are the same
+/// after every number of steps: under all valid placements, and so under those that this project takes. Up to no limit is there a number
+/// of steps after which they differ.
 pub fn typed_runs_are_same()
+    ensures as_one { TypedRunsAsOne }
     ensures placed { TypedRunsAreSame }
     ensures own { OwnTypedRunsAreSame }
     ensures never { TypedNeverDiffer }
@@ -125,4 +131,10 @@ pub fn own_placement_is_valid()
 /// with its script.
 pub fn typed_premises_are_met()
     ensures { TypedPremisesAreMet }
+{}
+
+/// There are two runs of an image, at 4 and at 8 bytes, that are the same and don't hold the same in memory: those of a driver, not typed,
+/// that stores the digit of how many bytes an address has into a text, and hands the text to a method.
+pub fn cells_tell_more()
+    ensures { CellsTellMore }
 {}
