@@ -12,12 +12,17 @@ pub fn kind_name(kind: Kind) -> &'static str
 {
     match kind {
         Kind::Status => "status",
+        Kind::Narrow => "narrow",
         Kind::Popn => "popn",
         Kind::Divide => "divide",
         Kind::Shift => "shift",
         Kind::Compare => "compare",
         Kind::Break => "break",
         Kind::Unwritten => "unwritten",
+        Kind::Far => "far",
+        Kind::Odd => "odd",
+        Kind::Frame => "frame",
+        Kind::String => "string",
     }
 }
 

@@ -12,13 +12,13 @@ use Rattle.rules_image.specs.Images.{FunctionHolds}
 use Rattle.rules_image.specs.Places.{Leads}
 use Rattle.width_checker.proofs.Deciding.{function_before, place_within}
 use Rattle.width_checker.proofs.Leading.{OnePoint, decode_later, places_before, start_first}
-use Rattle.image_warnings.specs.Departures.{departs}
+use Rattle.departures.specs.Departures.{departs}
 use Rattle.image_warnings.specs.Around.{IsAround}
-use Rattle.image_warnings.specs.Stored.{InsnAt}
-use Rattle.image_warnings.specs.Warned.{AreWarnings, IsWarned, IsWarnedIn, Precedes, all_due, turn, warnings_at}
+use Rattle.image_warnings.specs.ImageEffects.{InsnAt}
+use Rattle.image_warnings.specs.Warned.{AreWarnings, IsWarned, IsWarnedIn, Precedes, all_due, kinds_in_order, turn, warnings_at}
 use Rattle.image_warnings.specs.Walks.{WarnedBefore, WarnedTo}
-use Rattle.image_warnings.specs.declared.departure.Around.{Around}
-use Rattle.image_warnings.specs.declared.warning.Kind.{Kind}
+use Rattle.departures.specs.declared.departure.Around.{Around}
+use Rattle.departures.specs.declared.kind.Kind.{Kind}
 use Rattle.image_warnings.specs.declared.warning.Warning.{Warning}
 use Rattle.image_warnings.proofs.Ordering.{Ordered, due_sound, due_whole, no_element, turn_small, with_all}
 use Rattle.image_warnings.proofs.AroundLaws.{one_around}
@@ -28,10 +28,10 @@ use Rattle.image_warnings.proofs.Standing.{one_insn, one_next, one_state, place_
 
 -- warnings in order are so before a place
 ordered_to : (place : ℕ) (ws : List Warning) → AllPairs Precedes ws → ((w : Warning) → Contains ws w → w.place < place)
-    → Ordered (8 * place) ws
+    → Ordered (12 * place) ws
 ordered_to place ws pairs below = record {
   pairs = pairs;
-  below = λ w c. let h : w.place < place = below w c in let t : turn w.kind < 8 = turn_small w.kind in omega arith;
+  below = λ w c. let h : w.place < place = below w c in let t : turn w.kind < 12 = turn_small w.kind in omega arith;
 }
 
 -- the warnings of one more place are gathered
@@ -40,7 +40,7 @@ module _ (image : Image) (notes : Notes) (one : OnePoint notes) (func : ℕ) (f 
     (is_around : IsAround image notes f place at.state at.insn at.next around) where
   -- whether something departs there
   abbrev departs_so : Kind → Bool
-  departs_so kind = departs kind notes func f at.state around at.insn
+  departs_so kind = departs kind notes f place at.state around at.insn
 
   due_in : (w : Warning) → w.place ≡ place → departs_so w.kind ≡ true → IsWarnedIn image notes func f w
   due_in w same holds =
@@ -50,7 +50,7 @@ module _ (image : Image) (notes : Notes) (one : OnePoint notes) (func : ℕ) (f 
 
   due_warned : (w : Warning) → Contains (all_due place departs_so) w → IsWarned image notes w
   due_warned w c =
-      let h = due_sound place departs_so w c in
+      let h = due_sound place departs_so kinds_in_order w c in
       record { func = func; f = f; there = there; warned = due_in w h.0 h.1 }
 
   -- it departs by what was found there
@@ -64,9 +64,9 @@ module _ (image : Image) (notes : Notes) (one : OnePoint notes) (func : ℕ) (f 
       (subst (λ i. IsAround image notes f place at.state i h.at.next h.around) insn
       (subst (λ s. IsAround image notes f place s h.at.insn h.at.next h.around) state h.is_around)) in
       let same : h.around ≡ around = one_around image notes f place at.state at.insn at.next h.around around found is_around in
-      subst (λ i. departs kind notes func f at.state around i ≡ true) insn
-      (subst (λ a. departs kind notes func f at.state a h.at.insn ≡ true) same
-      (subst (λ s. departs kind notes func f s h.around h.at.insn ≡ true) state h.holds))
+      subst (λ i. departs kind notes f place at.state around i ≡ true) insn
+      (subst (λ a. departs kind notes f place at.state a h.at.insn ≡ true) same
+      (subst (λ s. departs kind notes f place s h.around h.at.insn ≡ true) state h.holds))
 
   warned_due : (w : Warning) → IsWarnedIn image notes func f w → w.place ≡ place → Contains (all_due place departs_so) w
   warned_due w h same =
@@ -77,11 +77,11 @@ module _ (image : Image) (notes : Notes) (one : OnePoint notes) (func : ℕ) (f 
       subst (λ p. Contains (all_due place departs_so) (record { place = p; kind = w.kind })) (sym same) c
 
   pub gathered : (ws : List Warning) → WarnedTo image notes func f place ws
-      → WarnedTo image notes func f at.next (ws ++ warnings_at place notes func f at.state around at.insn)
+      → WarnedTo image notes func f at.next (ws ++ warnings_at place notes f at.state around at.insn)
   gathered ws to =
       let later : place < at.next = decode_later image f place at.next at.insn at.decode in
       let more : List Warning = all_due place departs_so in
-      let ordered : Ordered (8 * place + 8) (ws ++ more) = with_all place departs_so ws (ordered_to place ws to.ordered to.below) in
+      let ordered : Ordered (12 * place + 12) (ws ++ more) = with_all place departs_so ws (ordered_to place ws to.ordered to.below) in
       record {
         sound = λ w c. ⊎_elim (to.sound w) (due_warned w) (Contains-append_cases ws more w c);
         whole = λ k g less found w h. Contains-append_left ws more w (to.whole k g less found w h);
@@ -91,7 +91,8 @@ module _ (image : Image) (notes : Notes) (one : OnePoint notes) (func : ℕ) (f 
             (places_before image f n p.0 place w.place at.next at.insn leads at.decode p.1 less);
         ordered = ordered.pairs;
         below = λ w c. ⊎_elim (λ old. let h : w.place < place = to.below w old in omega arith)
-            (λ new. let h : w.place ≡ place = (due_sound place departs_so w new).0 in omega arith) (Contains-append_cases ws more w c);
+            (λ new. let h : w.place ≡ place = (due_sound place departs_so kinds_in_order w new).0 in omega arith)
+            (Contains-append_cases ws more w c);
       }
 
 -- ---- all functions

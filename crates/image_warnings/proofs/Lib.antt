@@ -1,10 +1,10 @@
 pub mod AroundLaws
-pub mod FieldLaws
+pub mod Collecting
+pub mod EffectLaws
 pub mod Gathering
 pub mod Ordering
 pub mod Passing
 pub mod SpreadLaws
 pub mod Standing
 pub mod SteppingLaws
-pub mod Storing
 pub mod UncutLaws

@@ -1,6 +1,6 @@
 -- The walk through a function of a typed image: from one instruction to the next.
-use Rattle.std.proofs.Common.{◌≡◌, ◌↔◌, ℕ, ◌+◌, ◌≤◌, List, ◌++◌, refl, sym, ap, subst, ◌∙◌, arith}
-use Rattle.std.specs.Prelude.{Bool, IsTrue, Option, None, Some, IfSome}
+use Rattle.std.proofs.Common.{◌≡◌, ℕ, ◌+◌, ◌≤◌, List, ◌++◌, refl, sym, ap, subst, ◌∙◌, arith}
+use Rattle.std.specs.Prelude.{Option, None, Some, IfSome}
 use Rattle.std.proofs.lemmas.Option.{none-some}
 use Rattle.ebc_insn.specs.Spelling.{WellFormed}
 use Rattle.ebc_insn.specs.declared.Insn.{Insn}
@@ -16,18 +16,21 @@ use Rattle.width_checker.specs.Typed.{MeetsRules, Typed}
 use Rattle.width_checker.proofs.Leading.{OnePoint, decode_later, leads_of}
 use Rattle.width_checker.proofs.Points.{one_point}
 use Rattle.width_checker.proofs.Walking.{place_of_comes}
-use Rattle.image_warnings.specs.Around.{around_of}
-use Rattle.image_warnings.specs.Fields.{list_with_field, stored_field}
-use Rattle.image_warnings.specs.Stored.{AreStored, InsnAt, StoredBefore, StoredTo, with_stored}
-use Rattle.image_warnings.specs.Uncut.{UncutAt}
+use Rattle.note_types.specs.declared.notes.Static.{Static}
+use Rattle.image_warnings.specs.Around.{StandsBehind, around_of}
+use Rattle.image_warnings.specs.Effects.{effect_of, list_with}
+use Rattle.image_warnings.specs.ImageEffects.{AreEffects, EffectsBefore, EffectsTo, InsnAt, with_effect}
+use Rattle.image_warnings.specs.Marks.{IsUncut}
+use Rattle.departures.specs.Texts.{unended_texts}
 use Rattle.image_warnings.specs.Walks.{WarnedBefore, WarnedTo, following_insn, warnings_of}
 use Rattle.image_warnings.specs.Warned.{warnings_at}
-use Rattle.image_warnings.specs.declared.departure.Around.{Around}
-use Rattle.image_warnings.specs.declared.field.ObjectField.{ObjectField}
+use Rattle.departures.specs.declared.departure.Around.{Around}
+use Rattle.image_warnings.specs.declared.effect.Effect.{Effect}
+use Rattle.departures.specs.declared.above.Uncut.{Uncut}
 use Rattle.image_warnings.specs.declared.warning.Warning.{Warning}
-use Rattle.image_warnings.proofs.AroundLaws.{StandsBehind, around_found}
+use Rattle.image_warnings.proofs.AroundLaws.{around_found}
 use Rattle.image_warnings.proofs.Gathering.{gathered, gathered_end}
-use Rattle.image_warnings.proofs.Storing.{stored_end, stored_more}
+use Rattle.image_warnings.proofs.Collecting.{effects_end, effects_more}
 
 if_insn : (o : Option (Insn × ℕ)) → ((i : Insn) (next : ℕ) → o ≡ Some (i, next) → WellFormed i) → IfSome o (λ p. WellFormed p.0)
 if_insn None h = tt
@@ -77,28 +80,28 @@ module _ (image : Image) (notes : Notes) (func : ℕ) (f : FnNote) (walk : IsWal
     whole = subst (λ p. HasDecoded image f p c.insn) (goes meets) stands.whole.insn;
   }
 
-  pub passed : (fields : List ObjectField) (uncut : Bool) (behind : Option (Insn × ℕ)) (ws more : List Warning)
-      → AreStored image notes fields → (IsTrue uncut ↔ UncutAt image f b.place) → StandsBehind image f meets.next behind
-      → WarnedTo image notes func f b.place ws → more ≡ ws ++ warnings_of fields b.place notes func f uncut behind b.state b.insn
-      → WarnedTo image notes func f meets.next more
-  passed fields uncut behind ws more all u stands to e =
-      let around : Around = around_of fields uncut behind notes f meets.state meets.insn in
-      let same : more ≡ ws ++ warnings_at b.place notes func f meets.state around meets.insn =
-      e ∙ (ap (λ o. ws ++ warnings_of fields b.place notes func f uncut behind o b.insn) state_is
-      ∙ ap (λ o. ws ++ warnings_of fields b.place notes func f uncut behind (Some meets.state) o) insn_is) in
+  pub passed : (effects : List Effect) (texts : List Static) (uncut : Uncut) (behind : Option (Insn × ℕ)) (ws more : List Warning)
+      → AreEffects image notes effects → texts ≡ unended_texts image notes → IsUncut image notes f b.place uncut
+      → StandsBehind image f meets.next behind → WarnedTo image notes func f b.place ws
+      → more ≡ ws ++ warnings_of effects texts b.place notes f uncut behind b.state b.insn → WarnedTo image notes func f meets.next more
+  passed effects texts uncut behind ws more all are u stands to e =
+      let around : Around = around_of effects texts uncut behind notes f b.place meets.state meets.insn in
+      let same : more ≡ ws ++ warnings_at b.place notes f meets.state around meets.insn =
+      e ∙ (ap (λ o. ws ++ warnings_of effects texts b.place notes f uncut behind o b.insn) state_is
+      ∙ ap (λ o. ws ++ warnings_of effects texts b.place notes f uncut behind (Some meets.state) o) insn_is) in
       subst (WarnedTo image notes func f meets.next) (sym same)
       (gathered image notes one_place func f walk.there b.place s.comes.0 leads standing around
-      (around_found image notes f b.place meets.state meets.insn meets.next fields uncut behind all u stands) ws to)
+      (around_found image notes f b.place meets.state meets.insn meets.next effects texts uncut behind all are u stands) ws to)
 
-  -- and the field into which it stores is gathered
-  pub stored_passed : (fields more : List ObjectField) → StoredTo image notes func f b.place fields
-      → more ≡ with_stored fields notes f b.state b.insn → StoredTo image notes func f meets.next more
-  stored_passed fields more to e =
-      let same : more ≡ list_with_field fields (stored_field notes f meets.state meets.insn) =
-      e ∙ (ap (λ o. with_stored fields notes f o b.insn) state_is
-      ∙ ap (λ o. with_stored fields notes f (Some meets.state) o) insn_is) in
-      subst (StoredTo image notes func f meets.next) (sym same)
-      (stored_more image notes one_place func f walk.there b.place s.comes.0 leads standing fields to)
+  -- and its effect is gathered
+  pub effects_passed : (effects more : List Effect) → EffectsTo image notes func f b.place effects
+      → more ≡ with_effect effects image notes f b.state b.insn → EffectsTo image notes func f meets.next more
+  effects_passed effects more to e =
+      let same : more ≡ list_with effects (effect_of image notes f meets.state meets.insn meets.next) =
+      e ∙ (ap (λ o. with_effect effects image notes f o b.insn) state_is
+      ∙ ap (λ o. with_effect effects image notes f (Some meets.state) o) insn_is) in
+      subst (EffectsTo image notes func f meets.next) (sym same)
+      (effects_more image notes one_place func f walk.there b.place s.comes.0 leads standing effects to)
 
   -- at the end of the function
   pub passed_all : (ws : List Warning) → f.end ≤ meets.next → WarnedTo image notes func f meets.next ws
@@ -106,6 +109,6 @@ module _ (image : Image) (notes : Notes) (func : ℕ) (f : FnNote) (walk : IsWal
   passed_all ws past to =
       gathered_end image notes typed.tables.functions func f walk.there ws meets.next past meets.decode.within to
 
-  pub stored_passed_all : (fields : List ObjectField) → f.end ≤ meets.next → StoredTo image notes func f meets.next fields
-      → StoredBefore image notes (func + 1) fields
-  stored_passed_all fields past to = stored_end image notes typed.tables.functions func f walk.there fields meets.next past to
+  pub effects_passed_all : (effects : List Effect) → f.end ≤ meets.next → EffectsTo image notes func f meets.next effects
+      → EffectsBefore image notes (func + 1) effects
+  effects_passed_all effects past to = effects_end image notes typed.tables.functions func f walk.there effects meets.next past to

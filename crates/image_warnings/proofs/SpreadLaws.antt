@@ -11,7 +11,7 @@ use Rattle.ebc_base.proofs.Lists.{slice_get-append_left, within_some}
 use Rattle.note_types.specs.declared.notes.FnNote.{FnNote}
 use Rattle.pe_image.specs.declared.image.Image.{Image}
 use Rattle.image_warnings.specs.Spreading.{AreUncut, Extends, AreFollowed, IsSpread, IsFollowed, ReachesCalls, unmarked}
-use Rattle.image_warnings.specs.Uncut.{UncutAt}
+use Rattle.image_warnings.specs.Uncut.{UncutAt, Way}
 use Rattle.image_warnings.specs.declared.spread.Spread.{Spread}
 use Rattle.image_warnings.proofs.UncutLaws.{uncut_closed}
 
@@ -30,35 +30,36 @@ pub extends_length : (xs ys : List ℕ) → Extends xs ys → length xs ≤ leng
 extends_length xs ys (zs, e) = let long : length ys ≡ length xs + length zs = ap length e ∙ length-append xs zs in omega arith
 
 -- what is followed stays so
-pub followed_still : (image : Image) (f : FnNote) (count : ℕ) (xs ys : List ℕ) → count ≤ length xs → Extends xs ys
-    → AreFollowed image f count xs → AreFollowed image f count ys
-followed_still image f count xs ys low (zs, e) followed k p less at q c =
+pub followed_still : (image : Image) (f : FnNote) (way : Way) (count : ℕ) (xs ys : List ℕ) → count ≤ length xs → Extends xs ys
+    → AreFollowed image f way count xs → AreFollowed image f way count ys
+followed_still image f way count xs ys low (zs, e) followed k p less at q c =
     let within : k < length xs = omega arith in
     let before : slice_get xs k ≡ Some p =
     sym (slice_get-append_left xs zs k within) ∙ (ap (λ ws. slice_get ws k) (sym e) ∙ at) in
     still_reached xs ys q (zs, e) (followed k p less before q c)
 
 -- and one more
-pub followed_more : (image : Image) (f : FnNote) (count place : ℕ) (xs ys : List ℕ) → slice_get xs count ≡ Some place → Extends xs ys
-    → AreFollowed image f count xs → IsFollowed image f place ys → AreFollowed image f (count + 1) ys
-followed_more image f count place xs ys at (zs, e) followed follows k p less there =
+pub followed_more : (image : Image) (f : FnNote) (way : Way) (count place : ℕ) (xs ys : List ℕ) → slice_get xs count ≡ Some place
+    → Extends xs ys
+    → AreFollowed image f way count xs → IsFollowed image f way place ys → AreFollowed image f way (count + 1) ys
+followed_more image f way count place xs ys at (zs, e) followed follows k p less there =
     ⊎_elim
     (λ before.
     let inside : count < length xs = slice_get_within xs count place at in
-    followed_still image f count xs ys (omega arith) (zs, e) followed k p before there)
+    followed_still image f way count xs ys (omega arith) (zs, e) followed k p before there)
     (λ from.
     let same : k ≡ count = omega arith in
     let old : slice_get ys count ≡ Some place =
     ap (λ ws. slice_get ws count) e ∙ (slice_get-append_left xs zs count (slice_get_within xs count place at) ∙ at) in
     let one : place ≡ p = same_Some place p (sym old ∙ subst (λ j. slice_get ys j ≡ Some p) same there) in
-    subst (λ x. IsFollowed image f x ys) one follows)
+    subst (λ x. IsFollowed image f way x ys) one follows)
     (cases_lt k count)
 
 -- where all places that are reached are followed, all are reached
-pub all_reached : (image : Image) (f : FnNote) (count : ℕ) (xs : List ℕ) → length xs ≤ count → ReachesCalls image f xs
-    → AreFollowed image f count xs → (q : ℕ) → UncutAt image f q → Contains xs q
-all_reached image f count xs all calls followed q (n, comes) =
-    uncut_closed image f (Contains xs) calls
+pub all_reached : (image : Image) (f : FnNote) (way : Way) (count : ℕ) (xs : List ℕ) → length xs ≤ count → ReachesCalls image f way xs
+    → AreFollowed image f way count xs → (q : ℕ) → UncutAt image f way q → Contains xs q
+all_reached image f way count xs all calls followed q (n, comes) =
+    uncut_closed image f way (Contains xs) calls
     (λ p r has c.
     let within : has.0 < length xs = has.1 in
     let at : slice_get xs has.0 ≡ Some p = found xs p has in
@@ -109,7 +110,8 @@ set_still (b ∷ marks) (suc k) (suc m) at = set_still marks k m at
 -- ---- both
 
 -- what the mark of a place says
-module _ (image : Image) (f : FnNote) (s : Spread) (place : ℕ) (i : IsSpread image f s) (low : f.place ≤ place) (high : place < f.end) where
+module _ (image : Image) (f : FnNote) (way : Way) (s : Spread) (place : ℕ) (i : IsSpread image f way s) (low : f.place ≤ place)
+    (high : place < f.end) where
   pub mark_at : (b : Bool) → b ≡ get_or s.marks.items (place - f.place) b → slice_get s.marks.items (place - f.place) ≡ Some b
   mark_at b e =
       slice_get_read s.marks.items (length s.marks.items) (place - f.place) b refl (let size = i.size in omega arith) e
@@ -120,9 +122,9 @@ module _ (image : Image) (f : FnNote) (s : Spread) (place : ℕ) (i : IsSpread i
       subst (Contains s.reached.items) back ((i.marked (place - f.place)).0 (mark_at b e ∙ ap (λ c. Some c) is))
 
 -- nothing is reached
-pub spread_none : (image : Image) (f : FnNote) (s : Spread) (n : ℕ) → s.marks.items ≡ replicate n false → n ≡ f.end - f.place
-    → s.reached.items ≡ [] → IsSpread image f s
-spread_none image f s n marks count none = record {
+pub spread_none : (image : Image) (f : FnNote) (way : Way) (s : Spread) (n : ℕ) → s.marks.items ≡ replicate n false → n ≡ f.end - f.place
+    → s.reached.items ≡ [] → IsSpread image f way s
+spread_none image f way s n marks count none = record {
   size = ap length marks ∙ (length-replicate n false ∙ count);
   uncut = λ p c. absurd (no_element p (subst (λ xs. Contains xs p) none c));
   marked = λ k. (
@@ -144,17 +146,18 @@ spread_none image f s n marks count none = record {
     unmarked_all (suc n) (suc k) at = unmarked_all n k at
 
 -- a place is reached that wasn't marked
-pub spread_more : (image : Image) (f : FnNote) (s t : Spread) (place : ℕ) → IsSpread image f s → f.place ≤ place → UncutAt image f place
+pub spread_more : (image : Image) (f : FnNote) (way : Way) (s t : Spread) (place : ℕ) → IsSpread image f way s → f.place ≤ place
+    → UncutAt image f way place
     → slice_get s.marks.items (place - f.place) ≡ Some false → t.marks.items ≡ slice_set s.marks.items (place - f.place) true
-    → t.reached.items ≡ s.reached.items ++ place ∷ [] → IsSpread image f t
-spread_more image f s t place i low uncut at marks reached =
+    → t.reached.items ≡ s.reached.items ++ place ∷ [] → IsSpread image f way t
+spread_more image f way s t place i low uncut at marks reached =
     let slot : ℕ = place - f.place in
     let within : slot < length s.marks.items = slice_get_within s.marks.items slot false at in
     let back : f.place + slot ≡ place = omega arith in
     let long : length t.marks.items ≡ length s.marks.items = ap length marks ∙ length-set s.marks.items slot true in
     record {
       size = long ∙ i.size;
-      uncut = λ p c. ⊎_elim (i.uncut p) (λ e. subst (UncutAt image f) e uncut)
+      uncut = λ p c. ⊎_elim (i.uncut p) (λ e. subst (UncutAt image f way) e uncut)
           (Contains-push_cases s.reached.items place p (subst (λ xs. Contains xs p) reached c));
       marked = λ k. (
         λ is. ⊎_elim
@@ -179,9 +182,9 @@ spread_more image f s t place i low uncut at marks reached =
     }
 
 -- the marks say where R7 may be so
-pub marks_found : (image : Image) (f : FnNote) (s : Spread) → IsSpread image f s
-    → ((q : ℕ) → UncutAt image f q → Contains s.reached.items q) → AreUncut image f s.marks.items
-marks_found image f s i whole = record {
+pub marks_found : (image : Image) (f : FnNote) (way : Way) (s : Spread) → IsSpread image f way s
+    → ((q : ℕ) → UncutAt image f way q → Contains s.reached.items q) → AreUncut image f way s.marks.items
+marks_found image f way s i whole = record {
   size = i.size;
   exact = λ k b at. (
     λ t. i.uncut (f.place + k) ((i.marked k).0 (at ∙ ap (λ c. Some c) (is_true b t))),

@@ -6,7 +6,7 @@ use Rattle.pe_image.specs.declared.image.Image.{Image}
 use Rattle.rules_image.specs.Places.{IsPlaceOf}
 use Rattle.rules_image.proofs.Decoding.{decoded_once}
 use Rattle.width_checker.proofs.Leading.{OnePoint, leads_of, state_one}
-use Rattle.image_warnings.specs.Stored.{InsnAt}
+use Rattle.image_warnings.specs.ImageEffects.{InsnAt}
 
 module _ (image : Image) (notes : Notes) (func : ℕ) (f : FnNote) (place : ℕ) where
   -- it is a place of the function

@@ -15,7 +15,7 @@ use Rattle.state_walk.specs.Standing.{HasDecoded}
 use Rattle.width_checker.proofs.Deciding.{place_within}
 use Rattle.width_checker.proofs.Leading.{places_before, start_first}
 use Rattle.image_warnings.specs.Spreading.{Extends, IsFollowed, ReachesCalls, ReachesCallsBefore}
-use Rattle.image_warnings.specs.Uncut.{ComesUncut, LeadsWithin, calls_native, writes_r7}
+use Rattle.image_warnings.specs.Uncut.{ComesUncut, LeadsWithin, Way}
 use Rattle.image_warnings.proofs.SpreadLaws.{still_reached}
 
 -- ---- where an instruction leads
@@ -33,39 +33,41 @@ led_on_ok image f next i xs ys (Err e) fell more named = tt
 -- ---- a place is followed
 
 -- no instruction stands there
-pub followed_none : (image : Image) (f : FnNote) (place : ℕ) (xs : List ℕ) → HasDecoded image f place None → IsFollowed image f place xs
-followed_none image f place xs none q c =
+pub followed_none : (image : Image) (f : FnNote) (way : Way) (place : ℕ) (xs : List ℕ) → HasDecoded image f place None
+    → IsFollowed image f way place xs
+followed_none image f way place xs none q c =
     let there : IsDecoded image f place c.insn c.next = subst (λ p. IsDecoded image f p c.insn c.next) c.is_such.0 c.decode in
     absurd (none-some (c.insn, c.next) (none c.insn c.next there))
 
-module _ (image : Image) (f : FnNote) (place next : ℕ) (i : Insn) (xs : List ℕ) (d : IsDecoded image f place i next) where
-  -- it writes R7
-  pub followed_writer : writes_r7 i ≡ true → IsFollowed image f place xs
-  followed_writer writes q c =
+module _ (image : Image) (f : FnNote) (way : Way) (place next : ℕ) (i : Insn) (xs : List ℕ) (d : IsDecoded image f place i next) where
+  -- no path goes on over it
+  pub followed_stop : way.goes_on i ≡ false → IsFollowed image f way place xs
+  followed_stop stops q c =
       let there : IsDecoded image f place c.insn c.next = subst (λ p. IsDecoded image f p c.insn c.next) c.is_such.0 c.decode in
       let same : c.insn ≡ i = (decoded_once image f place c.insn i c.next next there d).0 in
-      let keeps : writes_r7 i ≡ false = subst (λ j. writes_r7 j ≡ false) same c.is_such.1 in
+      let goes : way.goes_on i ≡ true = subst (λ j. way.goes_on j ≡ true) same c.is_such.1 in
       absurd cc
 
   -- the places to which it leads are reached
-  pub followed_led : ((q : ℕ) → LeadsWithin image f next i q → Contains xs q) → IsFollowed image f place xs
+  pub followed_led : ((q : ℕ) → LeadsWithin image f next i q → Contains xs q) → IsFollowed image f way place xs
   followed_led led q c =
       let there : IsDecoded image f place c.insn c.next = subst (λ p. IsDecoded image f p c.insn c.next) c.is_such.0 c.decode in
       let once = decoded_once image f place c.insn i c.next next there d in
       led q (subst (λ n. LeadsWithin image f n i q) once.1 (subst (λ j. LeadsWithin image f c.next j q) once.0 c.leads))
 
--- ---- native calls
+-- ---- where paths begin
 
-pub calls_none : (image : Image) (f : FnNote) (xs : List ℕ) → ReachesCallsBefore image f f.place xs
-calls_none image f xs q c =
+pub calls_none : (image : Image) (f : FnNote) (way : Way) (xs : List ℕ) → ReachesCallsBefore image f way f.place xs
+calls_none image f way xs q c =
     let reached : IsPlaceOf image f c.last = c.is_such.1.0 in
     let low = start_first image f reached.0 c.last reached.1 in
     let less : c.last < f.place = c.is_such.0 in absurd (omega arith)
 
-pub calls_next : (image : Image) (f : FnNote) (place next : ℕ) (i : Insn) (xs ys : List ℕ) → ReachesCallsBefore image f place xs
+pub calls_next : (image : Image) (f : FnNote) (way : Way) (place next : ℕ) (i : Insn) (xs ys : List ℕ)
+    → ReachesCallsBefore image f way place xs
     → Extends xs ys → IsPlaceOf image f place → IsDecoded image f place i next
-    → (calls_native i ≡ true → (q : ℕ) → LeadsWithin image f next i q → Contains ys q) → ReachesCallsBefore image f next ys
-calls_next image f place next i xs ys before more reached d led q c =
+    → (way.begins place i ≡ true → (q : ℕ) → LeadsWithin image f next i q → Contains ys q) → ReachesCallsBefore image f way next ys
+calls_next image f way place next i xs ys before more reached d led q c =
     let from : IsPlaceOf image f c.last = c.is_such.1.0 in
     ⊎_elim
     (λ less. still_reached xs ys q more (before q (record {
@@ -79,16 +81,17 @@ calls_next image f place next i xs ys before more reached d led q c =
     (λ same.
     let there : IsDecoded image f place c.insn c.next = subst (λ p. IsDecoded image f p c.insn c.next) same c.decode in
     let once = decoded_once image f place c.insn i c.next next there d in
-    led (subst (λ j. calls_native j ≡ true) once.0 c.is_such.1.1) q
+    led (subst (λ j. way.begins place j ≡ true) once.0 (subst (λ p. way.begins p c.insn ≡ true) same c.is_such.1.1)) q
     (subst (λ n. LeadsWithin image f n i q) once.1 (subst (λ j. LeadsWithin image f c.next j q) once.0 c.leads)))
     (places_before image f reached.0 from.0 place c.last next i reached.1 d from.1 c.is_such.0)
 
 -- at the function's end all are before
 pub calls_all : (image : Image) (notes : Notes) (all : (k : ℕ) → FunctionHolds image notes k) (func : ℕ) (f : FnNote)
-    (there : slice_get notes.function func ≡ Some f) (place : ℕ) (xs : List ℕ) → f.end ≤ place → ReachesCallsBefore image f place xs
-    → ReachesCalls image f xs
+    (way : Way) (there : slice_get notes.function func ≡ Some f) (place : ℕ) (xs : List ℕ) → f.end ≤ place → ReachesCallsBefore image f
+    way place xs
+    → ReachesCalls image f way xs
 unfolding ComesUncut
-calls_all image notes all func f there place xs past before q c =
+calls_all image notes all func f way there place xs past before q c =
     let reached : IsPlaceOf image f c.last = c.is_such.0 in
     let inside : c.last < f.end = place_within image notes all func f there reached.0 c.last reached.1 in
     before q (record {

@@ -1,8 +1,8 @@
 pub mod Around
-pub mod Departures
-pub mod Fields
+pub mod Effects
+pub mod ImageEffects
+pub mod Marks
 pub mod Spreading
-pub mod Stored
 pub mod Uncut
 pub mod Walks
 pub mod Warned

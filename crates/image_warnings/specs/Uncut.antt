@@ -1,32 +1,24 @@
--- For proofs: where R7 may be as a native call left it: docs/FIRMWARE.md, "Warnings", `status`.
-use Rattle.std.specs.Prelude.{◌≡◌, ◌⊎◌, ℕ, zero, suc, ◌<◌, ◌≤◌, Bool, true, false, Some, nat_eq, pos}
+-- For proofs: where bits of R7 may be as a native call left them: docs/FIRMWARE.md, "Warnings", `status` and `narrow`.
+use Rattle.std.specs.Prelude.{◌≡◌, ◌⊎◌, ℕ, zero, suc, ◌<◌, ◌≤◌, Bool, true, ◌&&◌, Some, pos}
+use Rattle.departures.specs.Above.{keeps, leaves}
+use Rattle.departures.specs.Calls.{calls_native, signature_at}
+use Rattle.departures.specs.declared.above.Above.{Above}
 use Rattle.ebc_insn.specs.declared.Insn.{Insn}
-use Rattle.ebc_insn.specs.declared.Insn.TheVariants as insns
 use Rattle.note_infer.specs.Leaders.{names_place}
 use Rattle.note_types.specs.declared.notes.FnNote.{FnNote}
+use Rattle.note_types.specs.declared.notes.Notes.{Notes}
 use Rattle.pe_image.specs.declared.image.Image.{Image}
 use Rattle.rules_image.specs.Images.{IsDecoded, falls, reloc_at}
 use Rattle.rules_image.specs.Places.{IsPlaceOf}
-use Rattle.image_warnings.specs.Departures.{is_r7}
 
--- a native call
-abbrev pub calls_native : Insn → Bool
-calls_native (insns.Call far true rel op extra) = true
-calls_native i = false
+-- a path begins behind some instructions, by their places, and goes on over some
+pub record Way : Type 0 where
+  pub begins : ℕ → Insn → Bool
+  pub goes_on : Insn → Bool
 
--- an instruction that leaves something else in R7
-abbrev pub writes_r7 : Insn → Bool
-writes_r7 (insns.Call far native rel op extra) = true
-writes_r7 (insns.Arith op wide left right extra) = is_r7 left
-writes_r7 (insns.Move size bits left right lidx ridx) = is_r7 left
-writes_r7 (insns.MoveSigned bits left right lidx extra) = is_r7 left
-writes_r7 (insns.MoveImm size bits left lidx imm) = is_r7 left
-writes_r7 (insns.MoveImmNatural bits left lidx idx) = is_r7 left
-writes_r7 (insns.MoveRelative bits left lidx imm) = is_r7 left
-writes_r7 (insns.StoreSpecial to special) = nat_eq to 7
-writes_r7 (insns.Pop wide op extra) = is_r7 op
-writes_r7 (insns.PopNatural op extra) = is_r7 op
-writes_r7 i = false
+-- from a native call over what leaves such bits of R7 as they are
+abbrev pub way_of : Notes → Above → Way
+way_of notes a = record { begins = λ place i. calls_native i && leaves a (signature_at notes place); goes_on = keeps a }
 
 -- an instruction before `next` leads to a place of the function: control falls through to it, or a jump names it
 pub record LeadsWithin (image : Image) (f : FnNote) (next : ℕ) (i : Insn) (place : ℕ) : Type 0 where
@@ -43,19 +35,19 @@ pub record ComesFromSuch (image : Image) (f : FnNote) (IsSuch : ℕ → Insn →
   pub is_such : IsSuch last insn
   pub leads : LeadsWithin image f next insn place
 
--- a native call at a place of the function
-abbrev pub IsNativeCallAt : Image → FnNote → ℕ → Insn → Type 0
-IsNativeCallAt image f place i = IsPlaceOf image f place × (calls_native i ≡ true)
+-- an instruction at a place of the function behind which a path begins
+abbrev pub BeginsAt : Image → FnNote → Way → ℕ → Insn → Type 0
+BeginsAt image f way place i = IsPlaceOf image f place × (way.begins place i ≡ true)
 
--- an instruction at one of these places that leaves R7 as it is
-abbrev pub KeepsR7 : (ℕ → Type 0) → ℕ → Insn → Type 0
-KeepsR7 before place i = before place × (writes_r7 i ≡ false)
+-- an instruction at one of these places over which it goes on
+abbrev pub GoesOn : Way → (ℕ → Type 0) → ℕ → Insn → Type 0
+GoesOn way before place i = before place × (way.goes_on i ≡ true)
 
--- a path leads to a place from a native call, with so many instructions behind the call, which all leave R7 as it is
-unfoldable pub ComesUncut : Image → FnNote → ℕ → ℕ → Type 0
-ComesUncut image f zero place = ComesFromSuch image f (IsNativeCallAt image f) place
-ComesUncut image f (suc n) place = ComesFromSuch image f (KeepsR7 (ComesUncut image f n)) place
+-- a path leads to a place over so many instructions
+unfoldable pub ComesUncut : Image → FnNote → Way → ℕ → ℕ → Type 0
+ComesUncut image f way zero place = ComesFromSuch image f (BeginsAt image f way) place
+ComesUncut image f way (suc n) place = ComesFromSuch image f (GoesOn way (ComesUncut image f way n)) place
 
--- some path does: R7 may be there as a native call left it
-abbrev pub UncutAt : Image → FnNote → ℕ → Type 0
-UncutAt image f place = (n : ℕ) × ComesUncut image f n place
+-- some path does: such bits of R7 may be there as a native call left them
+abbrev pub UncutAt : Image → FnNote → Way → ℕ → Type 0
+UncutAt image f way place = (n : ℕ) × ComesUncut image f way n place

@@ -1,23 +1,25 @@
 -- For proofs: how far the warnings of an image are gathered.
-use Rattle.std.specs.Prelude.{◌≡◌, ℕ, ◌<◌, ◌≤◌, Bool, List, [], Option, None, Some, slice_get}
+use Rattle.std.specs.Prelude.{◌≡◌, ℕ, ◌<◌, ◌≤◌, List, [], Option, None, Some, slice_get}
 use Rattle.std.specs.List.{AllPairs, Contains}
 use Rattle.ebc_insn.specs.declared.Insn.{Insn}
 use Rattle.note_types.specs.declared.notes.FnNote.{FnNote}
 use Rattle.note_types.specs.declared.notes.Notes.{Notes}
+use Rattle.note_types.specs.declared.notes.Static.{Static}
 use Rattle.note_types.specs.declared.state.State.{State}
 use Rattle.pe_image.specs.declared.image.Image.{Image}
 use Rattle.state_walk.specs.declared.preceding.Before.{Before}
 use Rattle.image_warnings.specs.Around.{around_of}
-use Rattle.image_warnings.specs.declared.field.ObjectField.{ObjectField}
+use Rattle.image_warnings.specs.declared.effect.Effect.{Effect}
+use Rattle.departures.specs.declared.above.Uncut.{Uncut}
 use Rattle.image_warnings.specs.Warned.{IsWarned, IsWarnedIn, Precedes, warnings_at}
 use Rattle.image_warnings.specs.declared.warning.Warning.{Warning}
 
--- the warnings of what stands at a place, where these fields are stored into and this stands behind it
-abbrev pub warnings_of : List ObjectField → ℕ → Notes → ℕ → FnNote → Bool → Option (Insn × ℕ) → Option State → Option (Insn × ℕ)
+-- the warnings of what stands at a place, where the image has these effects and texts, and this is around it
+abbrev pub warnings_of : List Effect → List Static → ℕ → Notes → FnNote → Uncut → Option (Insn × ℕ) → Option State → Option (Insn × ℕ)
     → List Warning
-warnings_of fields place notes func f uncut behind (Some s) (Some (i, next)) =
-    warnings_at place notes func f s (around_of fields uncut behind notes f s i) i
-warnings_of fields place notes func f uncut behind s insn = []
+warnings_of effects texts place notes f uncut behind (Some s) (Some (i, next)) =
+    warnings_at place notes f s (around_of effects texts uncut behind notes f place s i) i
+warnings_of effects texts place notes f uncut behind s insn = []
 
 -- the instruction that stands before what comes next, if something does
 abbrev pub following_insn : Option Before → Option (Insn × ℕ)

@@ -7,19 +7,19 @@
 //!   function, the state before it and what is around it (`IsWarned`). They stand in order, each once.
 //!
 //! Inside the crate, `Scene::departs` tells whether the interpreter departs so at one instruction, exactly `departs`.
-//! `uncut_places` marks the places at which R7 may be as a native call left it, exactly these (`AreUncut`), and
-//! `stored_fields` gives the natural fields of objects into which the image stores, exactly these (`AreStored`). The
-//! walks go over each function twice, by `Walk` of `state_walk`.
+//! `uncut_places` marks the places at which bits of R7 may be as a native call left them, exactly these (`AreUncut`),
+//! `image_effects` gives the stores and calls of the image's instructions, exactly these (`AreEffects`), and
+//! `unended_texts` its texts without a zero. The walks go over each function twice, by `Walk` of `state_walk`.
 #![tactic(auto)]
 
 mod around;
-mod departure;
-mod field;
+mod effect;
+mod gather;
 mod spread;
-mod stored;
 mod uncut;
 mod walk;
 mod warning;
 
+pub use departures::Kind;
 pub use walk::warnings;
-pub use warning::{Kind, Warning};
+pub use warning::Warning;

@@ -1,22 +1,17 @@
-//! What an instruction does with R7, and where it leads.
+//! Where an instruction leads, and behind which ones paths begin.
 
-ghost use Rattle.std.specs.Prelude.{◌≡◌, ℕ, IfNone, IfSome};
+ghost use Rattle.std.specs.Prelude.{◌≡◌, ℕ, IfNone, IfSome, map};
+ghost use Rattle.std.specs.List.Sorted.{IsStrictlyIncreasing};
 ghost use Rattle.note_infer.specs.Finding.{IsNamedIn};
 ghost use Rattle.rules_image.specs.Images.{falls};
 ghost use Rattle.state_walk.specs.Standing.{IsWalkedFunction};
-ghost use Rattle.image_warnings.specs.Uncut.{calls_native, writes_r7};
+ghost use Rattle.image_warnings.specs.Uncut.{way_of};
 
-use crate::departure::is_r7;
+use departures::{Above, calls_native, leaves, signature_at};
 use ebc_insn::{Cond, Insn};
 use note_infer::{names_place, reloc_at};
+use note_types::Notes;
 use state_walk::Walk;
-
-/// Whether an instruction is a native call.
-pub(crate) fn calls_native(insn: &Insn) -> bool
-    ensures { result ≡ calls_native insn.now }
-{
-    matches!(insn, Insn::Call { native: true, .. })
-}
 
 /// Whether control may fall through to the next instruction.
 pub(crate) fn falls(insn: &Insn) -> bool
@@ -36,22 +31,12 @@ pub(crate) fn falls(insn: &Insn) -> bool
     }
 }
 
-/// Whether an instruction leaves something else in R7.
-pub(crate) fn writes_r7(insn: &Insn) -> bool
-    ensures { result ≡ writes_r7 insn.now }
+/// Whether an instruction at a place is a native call that may.
+pub(crate) fn begins(notes: &Notes, above: Above, place: u32, insn: &Insn) -> bool
+    requires { IsStrictlyIncreasing (map (λ x. x.place) notes.now.site) }
+    ensures { result ≡ (way_of notes.now above).begins place insn.now }
 {
-    match insn {
-        Insn::Call { .. } => true,
-        Insn::Arith { left, .. }
-        | Insn::Move { left, .. }
-        | Insn::MoveSigned { left, .. }
-        | Insn::MoveImm { left, .. }
-        | Insn::MoveImmNatural { left, .. }
-        | Insn::MoveRelative { left, .. } => is_r7(left),
-        Insn::StoreSpecial { to, .. } => *to == 7,
-        Insn::Pop { op, .. } | Insn::PopNatural { op, .. } => is_r7(op),
-        _ => false,
-    }
+    calls_native(insn) && leaves(above, signature_at(notes, place))
 }
 
 /// The place of a walk's function that an instruction before `next` names as the target of a jump, where it does.

@@ -1,54 +1,70 @@
 //! The walk through the functions of a typed image.
 
-ghost use Rattle.std.specs.Prelude.{◌≡◌, ◌+◌, ◌++◌, ◌≤◌, ◌<◌, ◌^◌, IfOk, IfSome, OnOk, Some, length, slice_get};
+ghost use Rattle.std.specs.Prelude.{◌≡◌, ◌+◌, ◌++◌, ◌≤◌, ◌<◌, ◌^◌, IfOk, IfSome, OnOk, Some, length, map, slice_get};
+ghost use Rattle.std.specs.List.Sorted.{IsStrictlyIncreasing};
 ghost use Rattle.ebc_insn.specs.Spelling.{WellFormed};
 ghost use Rattle.note_types.specs.Records.{IsNotes};
 ghost use Rattle.pe_image.specs.Images.{IsImage};
 ghost use Rattle.state_walk.specs.Standing.{IsWalkedFunction};
 ghost use Rattle.width_checker.specs.Typed.{Typed};
-ghost use Rattle.image_warnings.specs.Departures.{departs};
-ghost use Rattle.image_warnings.specs.Stored.{AreStored};
+ghost use Rattle.departures.specs.Departures.{departs};
+ghost use Rattle.image_warnings.specs.ImageEffects.{AreEffects};
+ghost use Rattle.departures.specs.Texts.{unended_texts};
 ghost use Rattle.image_warnings.specs.Walks.{WarnedBefore, warnings_of};
-ghost use Rattle.image_warnings.specs.Warned.{AreWarnings, due, warnings_at};
+ghost use Rattle.image_warnings.specs.Warned.{AreWarnings, due, due_of, warnings_at};
 
 use crate::around::{Beside, following_insn};
-use crate::departure::Scene;
-use crate::field::ObjectField;
-use crate::spread::{is_uncut, uncut_places};
-use crate::stored::stored_fields;
-use crate::warning::{Kind, Warning};
+use crate::effect::Effect;
+use crate::gather::image_effects;
+use crate::spread::Marks;
+use crate::warning::Warning;
+use departures::{KINDS, Kind, Scene, unended_texts};
 use ebc_base::{NoMemory, Sequence};
-use note_types::{FnNote, Notes};
+use note_types::{FnNote, Notes, Static};
 use pe_image::Image;
 use state_walk::{Before, Walk};
 use std::alloc::Global;
 
 // Appends the warning of a kind, if it is due.
-fn append_due(scene: &Scene, place: u32, kind: Kind, out: &mut Vec<Warning>) -> Result<(), NoMemory>
-    requires { WellFormed scene.now.insn.now }
-    ensures { OnOk result (out.new.items ≡ out.old.items ++ due place kind
-        (departs kind scene.now.notes.now scene.now.func scene.now.f.now scene.now.state.now scene.now.around scene.now.insn.now)) }
+fn append_due(scene: &Scene, kind: Kind, out: &mut Vec<Warning>) -> Result<(), NoMemory>
+    requires insn { WellFormed scene.now.insn.now }
+    requires sites { IsStrictlyIncreasing (map (λ x. x.place) scene.now.notes.now.site) }
+    ensures { OnOk result (out.new.items ≡ out.old.items ++ due scene.now.place kind
+        (departs kind scene.now.notes.now scene.now.f.now scene.now.place scene.now.state.now scene.now.around scene.now.insn.now)) }
 {
     if scene.departs(kind) {
+        let place = scene.place;
         out.push(Warning { place, kind })?;
     }
     Ok(())
 }
 
+// Appends those of the kinds that are due.
+#[tactic(auto, unfolding(crate::specs::Warned::due_of))]
+fn append_kinds(scene: &Scene, kinds: &[Kind], out: &mut Vec<Warning>) -> Result<(), NoMemory>
+    requires insn { WellFormed scene.now.insn.now }
+    requires sites { IsStrictlyIncreasing (map (λ x. x.place) scene.now.notes.now.site) }
+    ensures { OnOk result (out.new.items ≡ out.old.items ++ due_of scene.now.place
+        (λ kind. departs kind scene.now.notes.now scene.now.f.now scene.now.place scene.now.state.now scene.now.around scene.now.insn.now)
+        kinds.now) }
+{
+    match kinds {
+        [] => Ok(()),
+        [kind, rest @ ..] => {
+            append_due(scene, *kind, out)?;
+            append_kinds(scene, rest, out)
+        }
+    }
+}
+
 // Appends the warnings of an instruction.
-#[tactic(auto, unfolding(crate::specs::Warned::all_due))]
-fn append_all(scene: &Scene, place: u32, out: &mut Vec<Warning>) -> Result<(), NoMemory>
-    requires { WellFormed scene.now.insn.now }
-    ensures { OnOk result (out.new.items ≡ out.old.items ++ warnings_at place scene.now.notes.now scene.now.func scene.now.f.now
+fn append_all(scene: &Scene, out: &mut Vec<Warning>) -> Result<(), NoMemory>
+    requires insn { WellFormed scene.now.insn.now }
+    requires sites { IsStrictlyIncreasing (map (λ x. x.place) scene.now.notes.now.site) }
+    ensures { OnOk result (out.new.items ≡ out.old.items ++ warnings_at scene.now.place scene.now.notes.now scene.now.f.now
         scene.now.state.now scene.now.around scene.now.insn.now) }
 {
-    append_due(scene, place, Kind::Status, out)?;
-    append_due(scene, place, Kind::Popn, out)?;
-    append_due(scene, place, Kind::Divide, out)?;
-    append_due(scene, place, Kind::Shift, out)?;
-    append_due(scene, place, Kind::Compare, out)?;
-    append_due(scene, place, Kind::Break, out)?;
-    append_due(scene, place, Kind::Unwritten, out)
+    append_kinds(scene, &KINDS, out)
 }
 
 // Appends the warnings of what stands at a place.
@@ -58,9 +74,10 @@ fn append_of(
     beside: &Beside,
     out: &mut Vec<Warning>,
 ) -> Result<(), NoMemory>
-    requires { IfSome b.now.insn (λ (i, next). WellFormed i) }
-    ensures { OnOk result (out.new.items ≡ out.old.items ++ warnings_of beside.now.fields.now b.now.place walk.now.notes.now
-        walk.now.func walk.now.f.now beside.now.uncut beside.now.behind b.now.state b.now.insn) }
+    requires insn { IfSome b.now.insn (λ (i, next). WellFormed i) }
+    requires sites { IsStrictlyIncreasing (map (λ x. x.place) walk.now.notes.now.site) }
+    ensures { OnOk result (out.new.items ≡ out.old.items ++ warnings_of beside.now.effects.now beside.now.texts.now b.now.place
+        walk.now.notes.now walk.now.f.now beside.now.uncut beside.now.behind b.now.state b.now.insn) }
 {
     let Some(state) = &b.state else {
         return Ok(());
@@ -70,35 +87,44 @@ fn append_of(
     };
     let scene = Scene {
         notes: walk.notes,
-        func: walk.func,
         f: walk.f,
+        place: b.place,
         state,
-        around: beside.around(walk, state, insn),
+        around: beside.around(walk, b.place, state, insn),
         insn,
     };
-    append_all(&scene, b.place, out)
+    append_all(&scene, out)
 }
 
-// Appends the warnings of a function, where these are the fields into which the image stores.
+// What the image has as a whole: the effects of its instructions, and its texts without a zero.
+#[derive(Clone, Copy)]
+struct Whole<'a> {
+    effects: &'a [Effect],
+    texts: &'a [Static],
+}
+
+// Appends the warnings of a function, where this is what the image has.
 fn append_function(
     alloc: Global,
     walk: &Walk,
-    fields: &[ObjectField],
+    whole: &Whole,
     out: &mut Vec<Warning>,
 ) -> Result<(), NoMemory>
     requires walk { IsWalkedFunction walk.now.image.now walk.now.notes.now walk.now.func walk.now.f.now }
     requires typed { Typed walk.now.image.now walk.now.notes.now }
-    requires fields { AreStored walk.now.image.now walk.now.notes.now fields.now }
+    requires effects { AreEffects walk.now.image.now walk.now.notes.now whole.now.effects.now }
+    requires texts { whole.now.texts.now ≡ unended_texts walk.now.image.now walk.now.notes.now }
     requires before { WarnedBefore walk.now.image.now walk.now.notes.now walk.now.func out.old.items }
     ensures { OnOk result (WarnedBefore walk.now.image.now walk.now.notes.now (walk.now.func + 1) out.new.items) }
 {
-    let uncut = uncut_places(alloc, walk)?;
+    let marks = Marks::new(alloc, walk)?;
     let mut b = walk.start();
     'places: loop {
         let next = walk.next(&b);
         let beside = Beside {
-            fields,
-            uncut: is_uncut(walk, uncut.as_slice(), b.place),
+            effects: whole.effects,
+            texts: whole.texts,
+            uncut: marks.at(walk, b.place),
             behind: following_insn(&next),
         };
         append_of(walk, &b, &beside, out)?;
@@ -115,14 +141,15 @@ fn append_each(
     image: &Image,
     notes: &Notes,
     functions: &[FnNote],
-    fields: &[ObjectField],
+    whole: &Whole,
     out: &mut Vec<Warning>,
 ) -> Result<(), NoMemory>
     requires image { IsImage image.now }
     requires notes { IsNotes notes.now }
     requires functions { functions.now ≡ notes.now.function }
     requires typed { Typed image.now notes.now }
-    requires fields { AreStored image.now notes.now fields.now }
+    requires effects { AreEffects image.now notes.now whole.now.effects.now }
+    requires texts { whole.now.texts.now ≡ unended_texts image.now notes.now }
     requires before { WarnedBefore image.now notes.now 0 out.old.items }
     ensures { OnOk result (WarnedBefore image.now notes.now (length functions.now) out.new.items) }
 {
@@ -133,7 +160,7 @@ fn append_each(
             func: func as u32,
             f,
         };
-        append_function(alloc, &walk, fields, out)?;
+        append_function(alloc, &walk, whole, out)?;
     }
     Ok(())
 }
@@ -149,14 +176,19 @@ pub fn warnings(alloc: Global, image: &Image, notes: &Notes) -> Result<Sequence<
     requires typed { Typed image.now notes.now }
     ensures { IfOk result (AreWarnings image.now notes.now) }
 {
-    let fields = stored_fields(alloc, image, notes)?;
+    let effects = image_effects(alloc, image, notes)?;
+    let texts = unended_texts(alloc, image, notes)?;
+    let whole = Whole {
+        effects: effects.as_slice(),
+        texts: texts.as_slice(),
+    };
     let mut out = Vec::new(alloc);
     append_each(
         alloc,
         image,
         notes,
         notes.function.as_slice(),
-        fields.as_slice(),
+        &whole,
         &mut out,
     )?;
     Ok(Sequence::new(out))

@@ -1,10 +1,9 @@
 use Rattle.std.proofs.Common.{◌<◌, arith, sym, subst}
 use Rattle.std.specs.Prelude.{IfSome}
 use Rattle.state_walk.specs.Standing.{GoesToNext, StandsBefore}
-use Rattle.image_warnings.specs.Spreading.{AreUncut}
+use Rattle.image_warnings.specs.Around.{StandsBehind}
 use Rattle.image_warnings.specs.Walks.{WarnedTo}
 use Rattle.image_warnings.proofs.Gathering.{gathered_start}
-use Rattle.image_warnings.proofs.AroundLaws.{StandsBehind}
 use Rattle.image_warnings.proofs.Passing.{behind_found, is_well_formed, meets, passed, passed_all}
 use Rattle.image_warnings.proofs.walk.append_function.Goals as goal
 
@@ -18,12 +17,8 @@ places-init c =
           c.args.out.now.items c.requires.before);
     }
 
-pub is_uncut-requires-clause-marks : goal.is_uncut-requires-clause-marks
-is_uncut-requires-clause-marks c =
-    subst (AreUncut c.args.walk.now.image.now c.args.walk.now.f.now) (sym c.as_slice.ensures.value) c.in_ok-uncut.ensures
-
-pub append_of-requires : goal.append_of-requires
-append_of-requires c =
+pub append_of-requires-clause-insn : goal.append_of-requires-clause-insn
+append_of-requires-clause-insn c =
     let w = c.args.walk.now in
     is_well_formed w.image.now w.notes.now w.func w.f.now c.requires.walk c.requires.typed c.places.b c.places.invariant.stands
 
@@ -39,8 +34,8 @@ places-preserved c =
       stands = stands;
       warned = subst (λ p. WarnedTo w.image.now w.notes.now w.func w.f.now p c.append_of.new.out.items) (sym (goes m))
           (passed w.image.now w.notes.now w.func w.f.now c.requires.walk c.requires.typed b i.stands
-          c.args.fields.now c.is_uncut.result c.following_insn.result c.places.out.items c.append_of.new.out.items c.requires.fields
-          c.is_uncut.ensures
+          c.args.whole.now.effects.now c.args.whole.now.texts.now c.at.result c.following_insn.result c.places.out.items
+          c.append_of.new.out.items c.requires.effects c.requires.texts c.at.ensures
           (subst (StandsBehind w.image.now w.f.now m.next) (sym c.following_insn.ensures)
           (behind_found w.image.now w.notes.now w.func w.f.now c.requires.walk c.requires.typed b i.stands
           c.next-next.result c.next-next.ensures.stands c.next-next.ensures.goes_on))
@@ -56,8 +51,8 @@ returns-in-None c =
     let goes = subst (GoesToNext w.image.now w.notes.now w.func w.f.now b.place) c.in-None.is c.next-next.ensures.goes_on in
     passed_all w.image.now w.notes.now w.func w.f.now c.requires.walk c.requires.typed b i.stands c.append_of.new.out.items (goes m)
     (passed w.image.now w.notes.now w.func w.f.now c.requires.walk c.requires.typed b i.stands
-    c.args.fields.now c.is_uncut.result c.following_insn.result c.places.out.items c.append_of.new.out.items c.requires.fields
-    c.is_uncut.ensures
+    c.args.whole.now.effects.now c.args.whole.now.texts.now c.at.result c.following_insn.result c.places.out.items
+    c.append_of.new.out.items c.requires.effects c.requires.texts c.at.ensures
     (subst (StandsBehind w.image.now w.f.now m.next) (sym c.following_insn.ensures)
     (behind_found w.image.now w.notes.now w.func w.f.now c.requires.walk c.requires.typed b i.stands
     c.next-next.result c.next-next.ensures.stands c.next-next.ensures.goes_on))
@@ -71,3 +66,6 @@ places-smaller c =
     let inside = stands.insn.within in
     let later = subst (λ o. IfSome o (λ n. b.place < n.place)) c.in-Some.is c.next-next.ensures.later in
     omega arith
+
+pub append_of-requires-clause-sites : goal.append_of-requires-clause-sites
+append_of-requires-clause-sites c = c.requires.walk.read.ascends.sites

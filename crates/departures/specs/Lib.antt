@@ -1,0 +1,7 @@
+pub mod Above
+pub mod Calls
+pub mod Departures
+pub mod Fields
+pub mod Narrow
+pub mod Operands
+pub mod Texts
