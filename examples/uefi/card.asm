@@ -1,5 +1,6 @@
 ; The driver of a card: it lies in the card's option ROM, says to the firmware that it drives the card, and prints a line where the
-; firmware starts it and where it stops it. The card is device 100e of vendor 8086.
+; firmware starts it and where it stops it. So it shows the way, and does no work: examples/disk has a driver that does. The card is
+; device 100e of vendor 8086.
 .global main
 main:                     ; EFI_STATUS main (EFI_HANDLE ImageHandle, EFI_SYSTEM_TABLE *SystemTable)
   MOVRELd R7, supported_cell
@@ -41,49 +42,65 @@ main:                     ; EFI_STATUS main (EFI_HANDLE ImageHandle, EFI_SYSTEM_
   RET
 
 supported:                ; EFI_STATUS Supported (This, ControllerHandle, RemainingDevicePath)
-  PUSH64 R1
-  PUSHn @R0(+1,+24)       ; the controller
+  PUSH64 R1               ; vendor and device
+  MOVqw R0, R0(-1,-0)     ; makes room for the locals: pci
+  MOVIqw R5, 0
+  MOVnw @R0, R5
+  MOVqw R5, R0
+  PUSHn R5                ; where the EFI_PCI_IO_PROTOCOL goes
+  PUSHn @R0(+3,+24)       ; ControllerHandle
+  PUSHn @R0(+3,+24)       ; This
   CALL32 open
-  MOVqw R0, R0(+1,+0)
+  MOVqw R0, R0(+3,+0)
   CMPI64weq R7, 0
+  JMP8cc supported_ends
+  MOVnw R4, @R0           ; pci
+  CMPI64weq R4, 0
   JMP8cs not_ours
-  PUSHn R7
+  PUSHn R4
   CALL32 id
   MOVqw R0, R0(+1,+0)
   MOVqw R1, R7
-  PUSHn @R0(+1,+24)
+  PUSHn @R0(+2,+24)       ; ControllerHandle
+  PUSHn @R0(+2,+24)       ; This
   CALL32 close
-  MOVqw R0, R0(+1,+0)
+  MOVqw R0, R0(+2,+0)
   CMPI32deq R1, 0x100e8086
   JMP8cc not_ours
   MOVIqw R7, 0
+supported_ends:
+  MOVqw R0, R0(+1,+0)
   POP64 R1
   RET
 not_ours:
   CALL32 unsupported
-  POP64 R1
-  RET
+  JMP8 supported_ends
 
 start:                    ; EFI_STATUS Start (This, ControllerHandle, RemainingDevicePath)
-  PUSHn @R0(+1,+16)       ; the controller
+  MOVqw R0, R0(-1,-0)     ; makes room for the locals: pci
+  MOVIqw R5, 0
+  MOVnw @R0, R5
+  MOVqw R5, R0
+  PUSHn R5                ; where the EFI_PCI_IO_PROTOCOL goes
+  PUSHn @R0(+3,+16)       ; ControllerHandle
+  PUSHn @R0(+3,+16)       ; This
   CALL32 open
-  MOVqw R0, R0(+1,+0)
+  MOVqw R0, R0(+4,+0)
   CMPI64weq R7, 0
-  JMP8cs not_started
+  JMP8cc start_ends
   MOVRELd R4, started
   PUSHn R4
   CALL32 say
   MOVqw R0, R0(+1,+0)
   MOVIqw R7, 0
-  RET
-not_started:
-  CALL32 unsupported
+start_ends:
   RET
 
 stop:                     ; EFI_STATUS Stop (This, ControllerHandle, NumberOfChildren, ChildHandleBuffer)
-  PUSHn @R0(+1,+16)       ; the controller
+  PUSHn @R0(+1,+16)       ; ControllerHandle
+  PUSHn @R0(+1,+16)       ; This
   CALL32 close
-  MOVqw R0, R0(+1,+0)
+  MOVqw R0, R0(+2,+0)
   MOVRELd R4, stopped
   PUSHn R4
   CALL32 say
@@ -91,48 +108,40 @@ stop:                     ; EFI_STATUS Stop (This, ControllerHandle, NumberOfChi
   MOVIqw R7, 0
   RET
 
-open:                     ; the EFI_PCI_IO_PROTOCOL of a controller, or null
+open:                     ; opens a controller's EFI_PCI_IO_PROTOCOL: EFI_STATUS open (This, ControllerHandle, EFI_PCI_IO_PROTOCOL **Pci)
   MOVRELd R4, globals
   MOVnw R4, @R4           ; the system table
   CMPI64weq R4, 0
-  JMP8cs no_table
-  MOVqw R0, R0(-1,-0)     ; makes room for the locals: pci
-  MOVqw R6, R0
+  JMP8cs not_open
   MOVIqw R5, 16
   PUSHn R5                ; Attributes: BY_DRIVER
   PUSHn @R0(+2,+16)       ; ControllerHandle
-  MOVRELd R5, binding
-  PUSHn @R5(+4,+0)        ; AgentHandle: the driver's image
-  PUSHn R6                ; Interface
+  MOVnw R5, @R0(+2,+16)   ; This
+  PUSHn @R5(+5,+0)        ; AgentHandle: its DriverBindingHandle
+  PUSHn @R0(+5,+16)       ; Interface: Pci
   MOVRELd R5, pci_guid
   PUSHn R5                ; Protocol
   PUSHn @R0(+6,+16)       ; Handle: the controller
   MOVnw R4, @R4(+9,+24)   ; BootServices
   CALL32EXa @R4(+32,+24)  ; OpenProtocol
   MOVqw R0, R0(+6,+0)
-  MOVnw R7, R7
-  CMPI64weq R7, 0
-  JMP8cc not_open
-  MOVnw R7, @R0           ; pci
-  MOVqw R0, R0(+1,+0)
+  MOVnw R7, R7            ; success, EFI_ALREADY_STARTED, EFI_ACCESS_DENIED or EFI_UNSUPPORTED
   RET
 not_open:
-  MOVqw R0, R0(+1,+0)
-no_table:
-  MOVIqw R7, 0
+  CALL32 unsupported
   RET
 
-close:                    ; gives a controller's protocol back
+close:                    ; gives a controller's protocol back: close (This, ControllerHandle)
   MOVRELd R4, globals
   MOVnw R4, @R4
   CMPI64weq R4, 0
   JMP8cs not_closed
-  PUSHn @R0(+0,+16)       ; ControllerHandle
-  MOVRELd R5, binding
-  PUSHn @R5(+4,+0)        ; AgentHandle
+  PUSHn @R0(+1,+16)       ; ControllerHandle
+  MOVnw R5, @R0(+1,+16)   ; This
+  PUSHn @R5(+5,+0)        ; AgentHandle
   MOVRELd R5, pci_guid
   PUSHn R5                ; Protocol
-  PUSHn @R0(+3,+16)       ; Handle
+  PUSHn @R0(+4,+16)       ; Handle
   MOVnw R4, @R4(+9,+24)
   CALL32EXa @R4(+33,+24)  ; CloseProtocol
   MOVqw R0, R0(+4,+0)

@@ -8,8 +8,8 @@ main:
   PUSHn R5                ; Buffer
   MOVInw R4, (+16,+0)     ; four records of four natural units
   PUSHn R4                ; Size
-  MOVIqw R4, 4
-  PUSHn R4                ; PoolType: EfiBootServicesData
+  MOVIqw R4, 2
+  PUSHn R4                ; PoolType: EfiLoaderData
   MOVnw R4, @R1(+9,+24)   ; BootServices
   CALL32EXa @R4(+5,+24)   ; AllocatePool
   MOVqw R0, R0(+3,+0)

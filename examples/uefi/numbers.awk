@@ -7,7 +7,7 @@
 # `[[object]]  # SystemTable`. The first file is the notes, with each static object in a table [[static]] of its own.
 FNR == 1 { file++ }
 file == 1 && /^\[\[/ { static = $1 == "[[static]]" }
-file == 1 && static && $1 == "place" { gsub(/"/, "", $3); named($3) }
+file == 1 && static && /^ *place *=/ { split($0, quoted, "\""); named(quoted[2]) }
 file == 1 { next }
 $1 == "[[object]]" { object[++objects] = $3 }
 $1 == "[[call.make]]" { made[++makes] = $3 }

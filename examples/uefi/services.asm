@@ -9,8 +9,8 @@ main:
   PUSHn R5                ; Memory: EFI_PHYSICAL_ADDRESS *, 64 bits at both widths
   MOVIqw R4, 1
   PUSHn R4                ; Pages
-  MOVIqw R4, 4
-  PUSHn R4                ; MemoryType: EfiBootServicesData
+  MOVIqw R4, 2
+  PUSHn R4                ; MemoryType: EfiLoaderData
   MOVIqw R4, 0
   PUSHn R4                ; Type: AllocateAnyPages
   MOVnw R4, @R1(+9,+24)
@@ -64,7 +64,7 @@ main:
   MOVqw R0, R0(+2,+8)
   MOVnw R7, R7
   CMPI64weq R7, 0
-  JMP32cc failed
+  JMP32cc timer_failed
   MOVqw R5, R0(+1,+8)
   PUSHn R5                ; Index
   MOVqw R5, R0(+1,+8)     ; the address of `event`, one slot further
@@ -74,6 +74,13 @@ main:
   MOVnw R4, @R1(+9,+24)
   CALL32EXa @R4(+9,+24)   ; WaitForEvent
   MOVqw R0, R0(+3,+0)
+  MOVnw R7, R7
+  CMPI64weq R7, 0
+  JMP32cc timer_failed
+  PUSHn @R0(+0,+8)        ; Event
+  MOVnw R4, @R1(+9,+24)
+  CALL32EXa @R4(+11,+24)  ; CloseEvent
+  MOVqw R0, R0(+1,+0)
   MOVnw R7, R7
   CMPI64weq R7, 0
   JMP32cc failed
@@ -123,6 +130,14 @@ failed:
   MOVqw R0, R0(+3,+8)
   POP64 R1
   RET
+timer_failed:
+  PUSHn R7                ; the status, for the event is closed on each path
+  PUSHn @R0(+1,+8)        ; Event
+  MOVnw R4, @R1(+9,+24)
+  CALL32EXa @R4(+11,+24)  ; CloseEvent
+  MOVqw R0, R0(+1,+0)
+  POPn R7
+  JMP8 failed
 .data
 guid: .dd 0x6e6f6464     ; a GUID of our own
   .dw 0x7970, 0x4f70
