@@ -8,7 +8,8 @@
 //!   system.
 //!   - `shown`: no control character stands in the text but the line feeds at the ends of lines. U+0080 to U+009F are
 //!     controls, too.
-//!   - `done`: nothing is said of an answer that is done, unless a run ended otherwise than finished.
+//!   - `done`: nothing is said of an answer that is done, unless a run ended otherwise than finished,
+//!     or an option ROM was made.
 //!   - `says`: of each other answer than one that is done something is said.
 //!   - `agrees`: the first line begins with the file of the outcome, or with the program (`outcome_head`). Of a refusal the
 //!     place and the rule follow. Of `check IMAGE NOTES` and `infer` the place is told by the function that has it in the

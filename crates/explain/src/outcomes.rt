@@ -1,7 +1,7 @@
 //! What is said of an answer.
 ghost use Rattle.std.specs.Prelude.{◌≡◌, ◌≢◌, [], false, IfOk, string_bytes};
 ghost use Rattle.cli_base.specs.Words.{word_bytes};
-ghost use Rattle.explain_answers.specs.Words.{program_name};
+ghost use Rattle.explain_answers.specs.Words.{program_name, wraps};
 ghost use Rattle.explain.specs.Heads.{BeginsWith, asked_or, bad_file, error_head, missing_file, outcome_head};
 ghost use Rattle.explain.specs.Shown.{IsShown, shown_chars};
 
@@ -13,7 +13,7 @@ use ebc_base::NoMemory;
 use ebc_outside::MemFolder;
 use explain_answers::{
     Answer, bad_said, differ_said, large_said, number_said, runs_said, unread_said, unwritten_said,
-    words_said,
+    words_said, wrapping_said,
 };
 use explain_base::{Line, Said};
 
@@ -134,16 +134,26 @@ fn bad_lines(
     bad_file_lines(answer, number, &said)
 }
 
-// What is said of the runs of an answer that is done.
+// The notes on an answer that is done: on its runs, or on the image of an option ROM.
+fn notes_said(answer: &Answer, folder: &mut MemFolder) -> Result<Vec<Said>, NoMemory> {
+    if answer.wraps() {
+        wrapping_said(answer, folder)
+    } else {
+        runs_said(answer, folder)
+    }
+}
+
+// What is said of an answer that is done.
 fn done_lines(answer: &Answer, folder: &mut MemFolder) -> Result<Told, NoMemory>
-    ensures { answer.now.amiss ≡ false → IfOk result (λ told. told ≡ []) }
+    ensures { answer.now.amiss ≡ false → wraps answer.now.program (word_bytes answer.now.words.now) ≡ false →
+        IfOk result (λ told. told ≡ []) }
 {
     let alloc = answer.alloc;
     let mut told = Told::new(alloc);
-    if !answer.amiss {
+    if !answer.amiss && !answer.wraps() {
         return Ok(told);
     }
-    for said in runs_said(answer, folder)?.iter() {
+    for said in notes_said(answer, folder)?.iter() {
         let tail = tail_of(answer, said, ": note")?;
         add_said(
             alloc,
@@ -179,7 +189,8 @@ fn no_memory_lines(answer: &Answer) -> Result<Told, NoMemory>
 
 // What is said of an answer.
 fn lines_of(answer: &Answer, folder: &mut MemFolder) -> Result<Told, NoMemory>
-    ensures done { answer.now.outcome ≡ Outcome.Done → answer.now.amiss ≡ false → IfOk result (λ told. told ≡ []) }
+    ensures done { answer.now.outcome ≡ Outcome.Done → answer.now.amiss ≡ false →
+        wraps answer.now.program (word_bytes answer.now.words.now) ≡ false → IfOk result (λ told. told ≡ []) }
     ensures says { answer.now.outcome ≢ Outcome.Done → IfOk result (λ told. told ≢ []) }
     ensures agrees { IfOk result (λ told. BeginsWith
         (shown_chars (outcome_head answer.now.program (word_bytes answer.now.words.now) answer.now.asked.now
@@ -209,8 +220,9 @@ fn lines_of(answer: &Answer, folder: &mut MemFolder) -> Result<Told, NoMemory>
 pub fn explanation(answer: &Answer, folder: MemFolder) -> Result<String, NoMemory>
     ensures shown { IfOk result (λ text. IsShown (string_bytes text)) }
 
-    // Nothing is said of an answer that is done, unless a run ended otherwise than finished.
-    ensures done { answer.now.outcome ≡ Outcome.Done → answer.now.amiss ≡ false → IfOk result (λ text. string_bytes text ≡ []) }
+    // Nothing is said of an answer that is done, unless a run ended otherwise than finished, or an option ROM was made.
+    ensures done { answer.now.outcome ≡ Outcome.Done → answer.now.amiss ≡ false →
+        wraps answer.now.program (word_bytes answer.now.words.now) ≡ false → IfOk result (λ text. string_bytes text ≡ []) }
 
     // Of each other answer something is said.
     ensures says { answer.now.outcome ≢ Outcome.Done → IfOk result (λ text. string_bytes text ≢ []) }

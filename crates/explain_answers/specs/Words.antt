@@ -33,3 +33,10 @@ checks_code programs.Ebc words = bytes_eq (word_or_empty words 0) (codes "check"
 checks_code programs.EbcPlaces words = false
 checks_code programs.EbcNotes words = false
 checks_code programs.EbcLint words = false
+
+-- whether an option ROM is made of an image: `rom wrap`
+abbrev pub wraps : Program → List (List ℕ) → Bool
+wraps programs.Ebc words = bytes_eq (word_or_empty words 0) (codes "rom") && bytes_eq (word_or_empty words 1) (codes "wrap")
+wraps programs.EbcPlaces words = false
+wraps programs.EbcNotes words = false
+wraps programs.EbcLint words = false

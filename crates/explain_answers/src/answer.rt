@@ -1,7 +1,7 @@
 //! An answer that is explained.
 ghost use Rattle.std.specs.Prelude.{◌≡◌};
 ghost use Rattle.cli_base.specs.Words.{word_bytes};
-ghost use Rattle.explain_answers.specs.Words.{checks_code, names_objects, word_or_empty};
+ghost use Rattle.explain_answers.specs.Words.{checks_code, names_objects, word_or_empty, wraps};
 
 use crate::printed::PrintedFault;
 use crate::program::{Program, Slot, Use, command_slots, notes_slots};
@@ -92,6 +92,16 @@ impl<'a> Answer<'a> {
     {
         match self.program {
             Program::Ebc => self.word(0) == "check" && self.words.len() == 2,
+            _ => false,
+        }
+    }
+
+    /// Whether an option ROM is made of an image.
+    pub fn wraps(&self) -> bool
+        ensures { result ≡ wraps self.now.program (word_bytes self.now.words.now) }
+    {
+        match self.program {
+            Program::Ebc => self.word(0) == "rom" && self.word(1) == "wrap",
             _ => false,
         }
     }

@@ -9,7 +9,7 @@ use crate::program::{Program, Slot};
 use ebc_base::NoMemory;
 use ebc_outside::MemFolder;
 use explain_base::{Line, Said};
-use explain_files::{image_said, rom_said, taking_said};
+use explain_files::{image_said, rom_said, taking_said, wrapped_said};
 use explain_source::source_said;
 use explain_texts::{NotesFile, TomlText, toml_said};
 use note_types::{Notes, NotesEnd, Script, TomlFault};
@@ -108,6 +108,20 @@ fn bad_rom(alloc: Global, bytes: &[u8], number: &str) -> Result<Option<Said>, No
             Ok(Some(said))
         }
     }
+}
+
+/// What is said of an image of which an option ROM was made, where firmware passes over it there or refuses it; nothing if the file
+/// wasn't kept.
+pub fn wrapping_said(answer: &Answer, folder: &mut MemFolder) -> Result<Vec<Said>, NoMemory> {
+    let mut told = Vec::new(answer.alloc);
+    let number = 4;
+    if let Some(image) = answer.bytes_of(number, folder)? {
+        if let Some(mut said) = wrapped_said(answer.alloc, image.as_slice()) {
+            said.file.text(answer.word(number));
+            told.push(said)?;
+        }
+    }
+    Ok(told)
 }
 
 /// What is said of the fault of a text in TOML.

@@ -4,7 +4,8 @@
 //!
 //! Promises:
 //!
-//! - `Answer`: a word by its number, whether the words name a plan, and whether raw code is checked.
+//! - `Answer`: a word by its number, whether the words name a plan, whether raw code is checked, and whether an option
+//!   ROM is made.
 //! - `Program`: its name.
 //! - The sentences have no clause. The calls end, and fail by want of memory alone, unless reads of the folder were set
 //!   to fail.
@@ -17,6 +18,7 @@
 //! | `refused_image_said`, `refused_code_said`, `rule_said` | a refusal |
 //! | `completed_said` | a refusal of notes with labels, by the draft of complete notes under which the rule fails, and their faults |
 //! | `runs_said`, `differ_said` | runs that end otherwise than finished, and two that differ |
+//! | `wrapping_said` | an image of which an option ROM was made, and that firmware doesn't start from there |
 #![tactic(auto)]
 
 mod answer;
@@ -37,7 +39,7 @@ mod words;
 
 pub use answer::Answer;
 pub use files::{large_said, unread_said, unwritten_said};
-pub use inputs::{bad_said, number_said};
+pub use inputs::{bad_said, number_said, wrapping_said};
 pub use labelled::{Labelled, completed_said};
 pub use program::Program;
 pub use refusals::{refused_code_said, refused_image_said};

@@ -11,7 +11,7 @@
 //!   an ELF program or a text.
 //! - `object_said`: by the fault and the offset of `read_object`, under the name that the plan gives the object.
 //! - `rom_said`: by the fault and the offset of `read_rom`. `taking_said`: by the fault of `take`, with how many images
-//!   there are.
+//!   there are. `wrapped_said`: of an image of which a ROM is made, what firmware does with it there.
 //! - `link_said`: by the end of `link`. It asks for at most 256 objects, each an object (`IsObject`).
 //!
 //! | End of a link | Sentence |
@@ -41,4 +41,4 @@ mod symbols;
 pub use images::image_said;
 pub use links::link_said;
 pub use objects::object_said;
-pub use roms::{rom_said, taking_said};
+pub use roms::{rom_said, taking_said, wrapped_said};

@@ -1,6 +1,7 @@
-//! What is said of a file that is no option ROM, and of an image that isn't taken out of one.
+//! What is said of a file that is no option ROM, and of an image that isn't taken out of one, or is no driver for one.
 
 use crate::bytes::{guess, u16_at, u32_at, write_u16, write_u32};
+use crate::headers::optional;
 use explain_base::{Line, Said};
 use option_rom::{RomFault, TakeFault};
 use std::alloc::Global;
@@ -101,4 +102,49 @@ pub fn taking_said(alloc: Global, count: usize, number: u32, kind: TakeFault) ->
         ),
     };
     Said::with_page(what, "docs/ROMS.md, \"What is taken\"")
+}
+
+// What firmware does with an image of this subsystem in an option ROM, if it doesn't start it (UEFI specification, "PCI Option ROMs").
+fn passed_over(subsystem: u32) -> Option<&'static str> {
+    match subsystem {
+        10 => Some("an application, which firmware passes over in an option ROM"),
+        12 => Some("a runtime driver, of which EDK2 runs none in byte code"),
+        _ => None,
+    }
+}
+
+// Whether an image has a certificate table (PE/COFF specification, "Optional Header Data Directories").
+fn is_signed(image: &[u8]) -> bool {
+    optional(image, 108) > 4 && optional(image, 148) != 0
+}
+
+// What is said of an image whose signature covers no whole blocks.
+fn unfilled_said(alloc: Global, image: &[u8]) -> Said {
+    let size = image.len();
+    let mut what = Line::of(alloc, "the image is signed, and its ");
+    what.count(size)
+        .text(" bytes behind the 56 of the header fill no whole blocks of 512: ");
+    what.text("firmware hashes the zeros behind it, too, and refuses the signature; scripts/sign.sh pads an image before it signs it");
+    Said::with_page(what, "docs/ROMS.md, \"Secure Boot and signatures\"")
+}
+
+/// What is said of an image of which an option ROM is made, where firmware doesn't start it from there as it stands; none of another.
+pub fn wrapped_said(alloc: Global, image: &[u8]) -> Option<Said> {
+    let subsystem = optional(image, 68) % 0x1_0000;
+    if let Some(why) = passed_over(subsystem) {
+        let mut what = Line::of(alloc, "Subsystem is ");
+        what.number(u64::from(subsystem))
+            .text(", ")
+            .text(why)
+            .text("; wanted: 11, a boot service driver");
+        return Some(Said::with_page(
+            what,
+            "docs/ROMS.md, \"What a firmware asks of a ROM\"",
+        ));
+    }
+    let filled = image.len().saturating_add(56) % 512 == 0;
+    if is_signed(image) && !filled {
+        return Some(unfilled_said(alloc, image));
+    }
+    None
 }
