@@ -7,22 +7,44 @@ ghost use Rattle.note_types.specs.Records.{IsNotes};
 ghost use Rattle.width_checker.specs.Typed.{Typed};
 ghost use Rattle.note_completion.specs.Causes.{FaultHasCause, LargeHasCause, RefusedHasCause};
 ghost use Rattle.note_completion.specs.Completions.{Completes, IsComplete, TellsFirstFlaw, label_faults};
-ghost use Rattle.note_completion.specs.Halts.{EndsByRule, EndsChecked, GoesOnOrHalts, IsCaused, IsChecked, first_label_fault, task_place};
+ghost use Rattle.note_completion.specs.Halts.{EndsByRule, EndsChecked, GoesOnOrHalts, IsCaused, IsChecked, IsDrafted, IsRefusal, first_label_fault, task_place};
 
 use crate::completion::{Completion, Linked};
-use crate::depths::Depths;
+use crate::depths::{Depths, no_more};
 use crate::filling::{printed, read_printed};
-use crate::halt::{Halt, refused};
+use crate::halt::Halt;
+use crate::missing::{Sited, more, searched_points, state_lines};
 use crate::task::Task;
 use ebc_base::NoMemory;
-use note_filling::{Filled, More};
-use note_types::Notes;
+use note_filling::{Filled, More, has_items};
+use note_types::{Notes, RuleName};
 use pe_image::Image;
+use state_walk::before;
 use std::alloc::Global;
 use width_checker::{Verdict, check};
 
 // How many bytes the notes may have that are printed.
 const MOST_BYTES: usize = 1_048_576;
+
+// That a rule fails at a place, in the state there under notes.
+fn refused_in(
+    alloc: Global,
+    image: &Image,
+    notes: &Notes,
+    place: u32,
+    rule: RuleName,
+) -> Result<Halt, NoMemory>
+    requires image { IsImage image.now }
+    requires notes { IsNotes notes.now }
+    ensures { IfOk result (IsRefusal place rule) }
+{
+    let at = before(image, notes, place);
+    let state = match &at {
+        Some(at) => state_lines(alloc, notes, place, at.state.as_ref())?,
+        None => String::new(alloc),
+    };
+    Ok(Halt::Refused { place, rule, state })
+}
 
 // Whether the image keeps all rules under notes.
 fn check_rules(alloc: Global, image: &Image, notes: &Notes) -> Result<(), Halt>
@@ -33,7 +55,7 @@ fn check_rules(alloc: Global, image: &Image, notes: &Notes) -> Result<(), Halt>
 {
     match check(alloc, image, notes)? {
         Verdict::Neutral => Ok(()),
-        Verdict::Refused { place, rule } => Err(refused(alloc, place, rule)),
+        Verdict::Refused { place, rule } => Err(refused_in(alloc, image, notes, place, rule)?),
     }
 }
 
@@ -69,6 +91,88 @@ impl<'a> Task<'a> {
         }
     }
 
+    // The notes with points and sites by their tables, where the check of the image calls it neutral.
+    fn checked_with(
+        self,
+        alloc: Global,
+        depths: &Depths,
+        points: &str,
+        sites: &str,
+    ) -> Result<String, Halt>
+        requires image { IsImage self.linked.image.now }
+        ensures whole { IfOk result (λ notes.
+            IsComplete self.entry.linked.image.now (task_place self.entry) self.entry.text.now (string_bytes notes)) }
+        ensures cause { IfErr result (IsCaused self.entry) }
+    {
+        let more = more(alloc, points, sites)?;
+        self.checked(alloc, depths, more)
+    }
+
+    // The notes with the points that `infer` finds.
+    fn inferred(self, alloc: Global, depths: &Depths, sited: &Sited) -> Result<String, Halt>
+        requires image { IsImage self.linked.image.now }
+        requires conditions { IsNotes sited.now.draft.notes }
+        requires drafted { IsDrafted self sited.now.draft }
+        ensures whole { IfOk result (λ notes.
+            IsComplete self.entry.linked.image.now (task_place self.entry) self.entry.text.now (string_bytes notes)) }
+        ensures cause { IfErr result (IsCaused self.entry) }
+    {
+        let points = self.points_in(alloc, &sited.draft)?;
+        self.checked_with(alloc, depths, points.as_str(), sited.sites.as_str())
+    }
+
+    // The notes with the points that `infer` finds, where the search for better ones ended so. Where neither has neutral notes, what
+    // `infer` is told only where no way led the search to the place.
+    fn inferred_after(
+        self,
+        alloc: Global,
+        depths: &Depths,
+        sited: &Sited,
+        halt: Halt,
+    ) -> Result<String, Halt>
+        requires image { IsImage self.linked.image.now }
+        requires conditions { IsNotes sited.now.draft.notes }
+        requires drafted { IsDrafted self sited.now.draft }
+        requires cause { IsCaused self halt }
+        ensures whole { IfOk result (λ notes.
+            IsComplete self.entry.linked.image.now (task_place self.entry) self.entry.text.now (string_bytes notes)) }
+        ensures cause { IfErr result (IsCaused self.entry) }
+    {
+        match self.inferred(alloc, depths, sited) {
+            Ok(notes) => {
+                drop(halt);
+                Ok(notes)
+            }
+            Err(Halt::NoMemory) => Err(Halt::NoMemory),
+            Err(other) => {
+                if halt.is_unreached() {
+                    Err(other)
+                } else {
+                    Err(halt)
+                }
+            }
+        }
+    }
+
+    // The notes with the points that are found: those of the search, or else those of `infer`.
+    fn found(self, alloc: Global, depths: &Depths, sited: &Sited) -> Result<String, Halt>
+        requires image { IsImage self.linked.image.now }
+        requires conditions { IsNotes sited.now.draft.notes }
+        requires drafted { IsDrafted self sited.now.draft }
+        ensures whole { IfOk result (λ notes.
+            IsComplete self.entry.linked.image.now (task_place self.entry) self.entry.text.now (string_bytes notes)) }
+        ensures cause { IfErr result (IsCaused self.entry) }
+    {
+        let Some(points) = searched_points(alloc, self.linked.image, &sited.draft.notes)? else {
+            return self.inferred(alloc, depths, sited);
+        };
+        match self.checked_with(alloc, depths, points.as_str(), sited.sites.as_str()) {
+            Ok(notes) => Ok(notes),
+            Err(Halt::NoMemory) => Err(Halt::NoMemory),
+            Err(halt) => self.inferred_after(alloc, depths, sited, halt),
+        }
+    }
+
     // The complete notes of a text whose forms and names are those of notes.
     fn notes(self, alloc: Global) -> Result<String, Halt>
         requires image { IsImage self.linked.image.now }
@@ -77,8 +181,12 @@ impl<'a> Task<'a> {
         ensures cause { IfErr result (IsCaused self.entry) }
     {
         let depths = self.depths(alloc)?;
-        let more = self.missing(alloc, &depths)?;
-        self.checked(alloc, &depths, more)
+        let sited = self.sited(alloc, &depths)?;
+        if has_items(&sited.draft.filled.table, "point") {
+            drop(sited);
+            return self.checked(alloc, &depths, no_more(alloc));
+        }
+        self.found(alloc, &depths, &sited)
     }
 
     // The complete notes.

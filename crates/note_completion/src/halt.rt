@@ -85,6 +85,17 @@ pub(crate) fn refused(alloc: Global, place: u32, rule: RuleName) -> Halt
 }
 
 impl Halt {
+    /// Whether no way leads to the place at which a rule fails.
+    pub fn is_unreached(&self) -> bool {
+        matches!(
+            self,
+            Halt::Refused {
+                rule: RuleName::State,
+                ..
+            }
+        )
+    }
+
     /// What comes of the text.
     pub fn told(self) -> Result<Completion, NoMemory>
         ensures { result ≡ halt_completion self }

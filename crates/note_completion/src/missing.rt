@@ -15,6 +15,7 @@ use note_infer::{Inferred, infer};
 use note_texts::document;
 use note_types::{Notes, NotesEnd, Site, State};
 use pe_image::Image;
+use point_search::search_points;
 use printed_texts::{points_text, state_text};
 use site_finder::find_sites;
 use std::alloc::Global;
@@ -48,8 +49,8 @@ fn tables_in(alloc: Global, text: &str, key: &str) -> Result<Vec<Value>, NoMemor
     Ok(tables)
 }
 
-// The lines of a state at a place, where there is one.
-fn state_lines(
+/// The lines of a state at a place, where there is one.
+pub(crate) fn state_lines(
     alloc: Global,
     notes: &Notes,
     place: u32,
@@ -77,8 +78,27 @@ fn found_points(alloc: Global, image: &Image, notes: &Notes) -> Result<String, H
     }
 }
 
-/// The sites that notes lack, as tables of notes.
-pub(crate) fn found_sites(alloc: Global, image: &Image, notes: &Notes) -> Result<String, NoMemory>
+/// The points that the search finds, as tables of notes; none where it comes to no end.
+///
+/// # Errors
+///
+/// There is no memory.
+pub(crate) fn searched_points(
+    alloc: Global,
+    image: &Image,
+    notes: &Notes,
+) -> Result<Option<String>, NoMemory>
+    requires image { IsImage image.now }
+    requires notes { IsNotes notes.now }
+{
+    match search_points(alloc, image, notes)? {
+        Some(points) => Ok(Some(points_text(alloc, notes, points.as_slice())?)),
+        None => Ok(None),
+    }
+}
+
+// The sites that notes lack, as tables of notes.
+fn found_sites(alloc: Global, image: &Image, notes: &Notes) -> Result<String, NoMemory>
     requires image { IsImage image.now }
     requires notes { IsNotes notes.now }
 {
@@ -86,11 +106,18 @@ pub(crate) fn found_sites(alloc: Global, image: &Image, notes: &Notes) -> Result
     sites_text(alloc, notes, sites.as_slice())
 }
 
-// Points and sites by their tables.
-fn more(alloc: Global, points: &str, sites: &str) -> Result<More, NoMemory> {
+/// Points and sites by their tables.
+pub(crate) fn more(alloc: Global, points: &str, sites: &str) -> Result<More, NoMemory> {
     let points = tables_in(alloc, points, "point")?;
     let sites = tables_in(alloc, sites, "site")?;
     Ok(More { points, sites })
+}
+
+/// A draft with all its sites, and the tables of those that were found.
+#[derive(Drop)]
+pub(crate) struct Sited {
+    pub draft: Draft,
+    pub sites: String,
 }
 
 impl<'a> Task<'a> {
@@ -110,8 +137,8 @@ impl<'a> Task<'a> {
         self.draft(alloc, depths.found(), more)
     }
 
-    // The points that are found under a draft.
-    fn points_in(self, alloc: Global, draft: &Draft) -> Result<String, Halt>
+    /// The points that `infer` finds under a draft.
+    pub fn points_in(self, alloc: Global, draft: &Draft) -> Result<String, Halt>
         requires image { IsImage self.linked.image.now }
         requires conditions { IsNotes draft.now.notes }
         requires drafted { IsDrafted self draft.now }
@@ -120,57 +147,41 @@ impl<'a> Task<'a> {
         found_points(alloc, self.linked.image, &draft.notes)
     }
 
-    // The points that are found under the notes with more sites.
-    fn points_under(self, alloc: Global, depths: &Depths, sites: &str) -> Result<String, Halt>
-        requires image { IsImage self.linked.image.now }
-        ensures cause { IfErr result (IsCaused self.entry) }
-    {
-        let draft = self.draft_with(alloc, depths, "", sites)?;
-        self.points_in(alloc, &draft)
-    }
-
-    // The points that a draft lacks, with these sites. The text is filled once more where there are such sites.
-    fn points(
+    // A draft with these sites by their tables, if there are any.
+    fn with_sites(
         self,
         alloc: Global,
         depths: &Depths,
-        draft: &Draft,
-        sites: &str,
-    ) -> Result<String, Halt>
-        requires image { IsImage self.linked.image.now }
-        requires conditions { IsNotes draft.now.notes }
-        requires drafted { IsDrafted self draft.now }
+        draft: Draft,
+        sites: String,
+    ) -> Result<Sited, Halt>
+        requires conditions { IsNotes draft.notes }
+        requires drafted { IsDrafted self draft }
+        ensures conditions { IfOk result (λ sited. IsNotes sited.draft.notes) }
+        ensures drafted { IfOk result (λ sited. IsDrafted self.entry sited.draft) }
         ensures cause { IfErr result (IsCaused self.entry) }
     {
         if sites.is_empty() {
-            self.points_in(alloc, draft)
-        } else {
-            self.points_under(alloc, depths, sites)
+            return Ok(Sited { draft, sites });
         }
+        drop(draft);
+        let draft = self.draft_with(alloc, depths, "", sites.as_str())?;
+        Ok(Sited { draft, sites })
     }
 
-    // The sites that a draft lacks, and then the points.
-    fn found(self, alloc: Global, depths: &Depths, draft: &Draft) -> Result<More, Halt>
+    /// The draft with the sites that the text doesn't have; none are found where it has points of its own.
+    pub fn sited(self, alloc: Global, depths: &Depths) -> Result<Sited, Halt>
         requires image { IsImage self.linked.image.now }
-        requires conditions { IsNotes draft.now.notes }
-        requires drafted { IsDrafted self draft.now }
-        ensures cause { IfErr result (IsCaused self.entry) }
-    {
-        let sites = found_sites(alloc, self.linked.image, &draft.notes)?;
-        let points = self.points(alloc, depths, draft, sites.as_str())?;
-        Ok(more(alloc, points.as_str(), sites.as_str())?)
-    }
-
-    /// The points and sites that the text doesn't have; none where it has points of its own.
-    pub fn missing(self, alloc: Global, depths: &Depths) -> Result<More, Halt>
-        requires image { IsImage self.linked.image.now }
+        ensures conditions { IfOk result (λ sited. IsNotes sited.draft.notes) }
+        ensures drafted { IfOk result (λ sited. IsDrafted self.entry sited.draft) }
         ensures cause { IfErr result (IsCaused self.entry) }
     {
         let draft = self.draft(alloc, depths.found(), no_more(alloc))?;
         if has_items(&draft.filled.table, "point") {
-            Ok(no_more(alloc))
-        } else {
-            self.found(alloc, depths, &draft)
+            let sites = String::new(alloc);
+            return Ok(Sited { draft, sites });
         }
+        let sites = found_sites(alloc, self.linked.image, &draft.notes)?;
+        self.with_sites(alloc, depths, draft, sites)
     }
 }

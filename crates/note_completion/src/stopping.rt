@@ -8,17 +8,18 @@ ghost use Rattle.note_types.specs.Records.{IsNotes};
 ghost use Rattle.pe_image.specs.Images.{IsImage};
 
 use crate::completion::Linked;
-use crate::depths::{Depths, depths_of, no_more};
+use crate::depths::{Depths, depths_of};
 use crate::filling::Draft;
 use crate::halt::Halt;
-use crate::missing::found_sites;
+use crate::missing::{Sited, searched_points};
 use crate::task::Task;
 use ebc_base::NoMemory;
 use note_filling::has_items;
 use note_infer::{Inferred, infer};
-use note_types::State;
+use note_types::{RuleName, State};
 use printed_texts::points_text;
 use std::alloc::Global;
+use width_checker::{Verdict, check};
 
 /// Where a text stops short of complete notes.
 #[derive(Drop)]
@@ -71,24 +72,55 @@ impl<'a> Task<'a> {
         }
     }
 
+    // The draft with the points of the search, which the check refuses; none where no way led the search to the place.
+    fn refused_draft(
+        self,
+        alloc: Global,
+        depths: &Depths,
+        sited: &Sited,
+    ) -> Result<Option<Draft>, Halt>
+        requires image { IsImage self.linked.image.now }
+        requires conditions { IsNotes sited.now.draft.notes }
+        ensures conditions { IfOk result (λ found. IfSome found (λ draft. IsNotes draft.notes)) }
+        ensures drafted { IfOk result (λ found. IfSome found (IsDrafted self.entry)) }
+    {
+        let image = self.linked.image;
+        let Some(points) = searched_points(alloc, image, &sited.draft.notes)? else {
+            return Ok(None);
+        };
+        let draft = self.draft_with(alloc, depths, points.as_str(), sited.sites.as_str())?;
+        match check(alloc, image, &draft.notes)? {
+            Verdict::Refused {
+                rule: RuleName::State,
+                ..
+            } => {
+                drop(draft);
+                Ok(None)
+            }
+            _ => Ok(Some(draft)),
+        }
+    }
+
     // Where the text stops, with its levels and needs.
     fn stop_with_depths(self, alloc: Global, depths: &Depths) -> Result<Stop, Halt>
         requires image { IsImage self.linked.image.now }
         ensures conditions { IfOk result (λ stop. IsNotes stop.draft.notes) }
         ensures drafted { IfOk result (λ stop. IsDrafted self.entry stop.draft) }
     {
-        let draft = self.draft(alloc, depths.found(), no_more(alloc))?;
-        if has_items(&draft.filled.table, "point") {
-            return Ok(stopped(draft));
+        let sited = self.sited(alloc, depths)?;
+        if has_items(&sited.draft.filled.table, "point") {
+            return Ok(stopped(sited.draft));
         }
-        let sites = found_sites(alloc, self.linked.image, &draft.notes)?;
-        let sites = sites.as_str();
-        if sites.is_empty() {
-            return self.stop_with_sites(alloc, depths, draft, sites);
+        match self.refused_draft(alloc, depths, &sited)? {
+            Some(draft) => {
+                drop(sited);
+                Ok(stopped(draft))
+            }
+            None => {
+                let Sited { draft, sites } = sited;
+                self.stop_with_sites(alloc, depths, draft, sites.as_str())
+            }
         }
-        drop(draft);
-        let draft = self.draft_with(alloc, depths, "", sites)?;
-        self.stop_with_sites(alloc, depths, draft, sites)
     }
 
     // Where the text stops.

@@ -1,6 +1,6 @@
 //! The search for sites: rounds of walks, in which each place of the code is walked through at most once.
 
-ghost use Rattle.std.specs.Prelude.{◌≡◌, ◌≤◌, ℕ, Some, length, slice_get};
+ghost use Rattle.std.specs.Prelude.{◌≤◌, ℕ, length};
 ghost use Rattle.note_types.specs.Limits.{point_limit};
 ghost use Rattle.note_types.specs.Records.{IsNotes};
 ghost use Rattle.pe_image.specs.Images.{IsImage};
@@ -8,83 +8,69 @@ ghost use Rattle.rules_image.specs.Images.{FunctionHolds};
 ghost use Rattle.note_infer.specs.Leaders.{AreLeaders};
 
 use crate::comings::{Comings, Reached};
+use crate::course::Course;
 use crate::trial::Trial;
-use crate::walk::{Course, Search};
+use code_walk::Search;
 use ebc_base::NoMemory;
 use note_infer::{find_leaders, marked};
-use note_types::{FnNote, Notes, Site, entry_state, point_limit};
+use note_types::{Notes, Site, point_limit};
 use pe_image::Image;
 use rules_image::check_functions;
 use std::alloc::Global;
 
-impl<'a> Search<'a> {
-    // Begins a function, by its number: its entry state comes to the leader at its start, or else it is walked from there.
-    fn enter(&self, func: u32, f: &FnNote, course: &mut Course) -> Result<(), NoMemory>
-        requires image { IsImage self.now.image.now }
-        requires notes { IsNotes self.now.notes.now }
-        requires functions { (k : ℕ) → FunctionHolds self.now.image.now self.now.notes.now k }
-        requires there { slice_get self.now.notes.now.function func ≡ Some f.now }
-    {
-        let state = entry_state(self.notes, func);
-        if self.leaders.binary_search(&f.place).is_ok() {
-            return self.come(f, f.place, state, &mut course.comings);
-        }
-        self.walk(func, f.place, state, course)
-    }
+// Walks on from a leader.
+fn go_on(search: &Search, reached: Reached, course: &mut Course) -> Result<(), NoMemory>
+    requires image { IsImage search.now.image.now }
+    requires notes { IsNotes search.now.notes.now }
+    requires functions { (k : ℕ) → FunctionHolds search.now.image.now search.now.notes.now k }
+{
+    let Reached { number, state } = reached;
+    let Some(place) = search.leaders.get(number) else {
+        return Ok(());
+    };
+    let functions = search.notes.function.as_slice();
+    let func = functions.partition_point(|f| f.end <= *place);
+    search.walk(func as u32, *place, state, course)
+}
 
-    // Walks on from a leader.
-    fn go_on(&self, reached: Reached, course: &mut Course) -> Result<(), NoMemory>
-        requires image { IsImage self.now.image.now }
-        requires notes { IsNotes self.now.notes.now }
-        requires functions { (k : ℕ) → FunctionHolds self.now.image.now self.now.notes.now k }
-    {
-        let Reached { number, state } = reached;
-        let Some(place) = self.leaders.get(number) else {
-            return Ok(());
-        };
-        let functions = self.notes.function.as_slice();
-        let func = functions.partition_point(|f| f.end <= *place);
-        self.walk(func as u32, *place, state, course)
+// Walks from all functions, and then in rounds from the leaders to which a state came first in the round before.
+fn run(search: &Search, course: &mut Course) -> Result<(), NoMemory>
+    requires image { IsImage search.now.image.now }
+    requires notes { IsNotes search.now.notes.now }
+    requires functions { (k : ℕ) → FunctionHolds search.now.image.now search.now.notes.now k }
+{
+    for func in 0..search.notes.function.len() {
+        search.enter(func as u32, course)?;
     }
-
-    // Walks from all functions, and then in rounds from the leaders to which a state came first in the round before.
-    fn run(&self, course: &mut Course) -> Result<(), NoMemory>
-        requires image { IsImage self.now.image.now }
-        requires notes { IsNotes self.now.notes.now }
-        requires functions { (k : ℕ) → FunctionHolds self.now.image.now self.now.notes.now k }
-    {
-        for (func, f) in self.notes.function.as_slice().iter().enumerate() {
-            self.enter(func as u32, f, course)?;
+    for _ in 0..search.leaders.len() {
+        let reached = course.comings.end_round(course.alloc)?;
+        if reached.is_empty() {
+            break;
         }
-        for _ in 0..self.leaders.len() {
-            let reached = course.comings.end_round(self.alloc)?;
-            if reached.is_empty() {
-                break;
-            }
-            for it in reached {
-                self.go_on(it, course)?;
-            }
+        for it in reached {
+            go_on(search, it, course)?;
         }
-        Ok(())
     }
+    Ok(())
+}
 
-    // The sites that are found.
-    fn sites(&self) -> Result<Vec<Site>, NoMemory>
-        requires image { IsImage self.now.image.now }
-        requires notes { IsNotes self.now.notes.now }
-        requires functions { (k : ℕ) → FunctionHolds self.now.image.now self.now.notes.now k }
-        requires leaders { AreLeaders self.now.image.now self.now.notes.now self.now.leaders.now }
-        requires few { length self.now.leaders.now ≤ point_limit self.now.notes.now.version }
-    {
-        let marked = marked(self.alloc, self.notes, self.leaders)?;
-        let mut course = Course {
-            trial: Trial::new(marked),
-            comings: Comings::new(self.alloc, self.leaders.len())?,
-            found: Vec::new(self.alloc),
-        };
-        self.run(&mut course)?;
-        Ok(course.found)
-    }
+// The sites that are found.
+fn sites(alloc: Global, search: &Search) -> Result<Vec<Site>, NoMemory>
+    requires image { IsImage search.now.image.now }
+    requires notes { IsNotes search.now.notes.now }
+    requires functions { (k : ℕ) → FunctionHolds search.now.image.now search.now.notes.now k }
+    requires leaders { AreLeaders search.now.image.now search.now.notes.now search.now.leaders.now }
+    requires few { length search.now.leaders.now ≤ point_limit search.now.notes.now.version }
+{
+    let marked = marked(alloc, search.notes, search.leaders)?;
+    let mut course = Course {
+        alloc,
+        trial: Trial::new(marked),
+        comings: Comings::new(alloc, search.leaders.len())?,
+        found: Vec::new(alloc),
+    };
+    run(search, &mut course)?;
+    Ok(course.found)
 }
 
 /// The sites that notes lack, in the order of their places: one for each native call that the search for points comes to with the
@@ -106,12 +92,11 @@ pub fn find_sites(alloc: Global, image: &Image, notes: &Notes) -> Result<Vec<Sit
         return Ok(Vec::new(alloc));
     }
     let search = Search {
-        alloc,
         image,
         notes,
         leaders: leaders.as_slice(),
     };
-    let mut sites = search.sites()?;
-    sites.sort_unstable_by_key(|site| site.place);
-    Ok(sites)
+    let mut found = sites(alloc, &search)?;
+    found.sort_unstable_by_key(|site| site.place);
+    Ok(found)
 }

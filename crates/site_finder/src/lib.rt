@@ -10,10 +10,10 @@
 #![tactic(auto)]
 
 mod comings;
+mod course;
 mod finder;
 mod signature;
 mod trial;
-mod walk;
 
 pub use ebc_base::NoMemory;
 pub use finder::find_sites;
