@@ -111,6 +111,12 @@ idiom_with() {
   found=$(sed -n 1p <<<"$found")
   [ "$found" = "$3" ] || fail "$2 prints '$found', not '$3'"
 }
+# The registers of the points that are found for the last idiom, a line for each point.
+points() {
+  local found
+  found=$("$EBC_NOTES" idiom.plan idiom.labels 2>/dev/null | sed -n 's/^regs = \["\(.*\)"\]$/\1/p' | sed 's/", "/, /g')
+  [ "$found" = "$2" ] || fail "the points of $1 are '$found', not '$2'"
+}
 
 idiom behind-minus 'neutral' '
   MOVIqw R6, 1 | MOVIqw R4, 0
@@ -141,6 +147,8 @@ idiom byte-offset 'neutral' '
   MOVIqw R6, 1 | MOVIqw R4, 0
   n: | CMPI64wugte R4, 64 | JMP8cs d | MOVRELd R5, dwords | ADD64 R5, R4 | MOVdw @R5, R6 | MOVqw R4, R4(+0,+4) | JMP8 n
   d: | MOVIqw R7, 0 | RET'
+points byte-offset 'R4 int:0..100/4, R6 int:1..1
+R4 int:64..100/4, R6 int:1..1'
 idiom call-in-loop 'neutral' '
   PUSH64 R1 | PUSH64 R2 | PUSH64 R3 | MOVIqw R2, 0
   n: | CMPI64wugte R2, 17 | JMP8cs d | PUSHn R2 | CALL32 err | POPn R6 | MOVqw R7, R2 | MOVIqw R5, 2 | MULU64 R7, R5
@@ -155,6 +163,8 @@ idiom count-down 'neutral' '
   n: | CMPI64weq R4, 0 | JMP8cs d | MOVqw R4, R4(-0,-1) | MOVqw R7, R4 | MOVIqw R5, 2 | MULU64 R7, R5
   MOVRELd R5, chars | ADD64 R5, R7 | MOVww @R5, R6 | JMP8 n
   d: | MOVIqw R7, 0 | RET'
+points count-down 'R4 int:0..17, R6 int:1..1
+R4 int:0..0, R6 int:1..1'
 idiom count-down-do 'neutral' '
   MOVIqw R6, 1 | MOVIqw R4, 17
   n: | MOVqw R4, R4(-0,-1) | MOVqw R7, R4 | MOVIqw R5, 2 | MULU64 R7, R5 | MOVRELd R5, chars | ADD64 R5, R7
@@ -185,6 +195,7 @@ idiom do-while 'neutral' '
   MOVIqw R6, 1 | MOVIqw R4, 0
   n: | MOVqw R7, R4 | MOVIqw R5, 2 | MULU64 R7, R5 | MOVRELd R5, chars | ADD64 R5, R7 | MOVww @R5, R6
   MOVqw R4, R4(+0,+1) | CMPI64wugte R4, 17 | JMP8cc n | MOVIqw R7, 0 | RET'
+points do-while 'R4 int:0..16, R6 int:1..1'
 idiom do-while-ne 'neutral' '
   MOVIqw R6, 1 | MOVIqw R4, 0
   n: | MOVqw R7, R4 | MOVIqw R5, 2 | MULU64 R7, R5 | MOVRELd R5, chars | ADD64 R5, R7 | MOVww @R5, R6
@@ -193,6 +204,7 @@ idiom error-codes 'neutral' '
   MOVnw R4, @R0(+0,+16) | MOVIqw R6, 12 | CMPI64weq R4, 0 | JMP8cs w | MOVIqw R6, 13 | CMPI64weq R4, 1 | JMP8cs w
   MOVIqw R6, 2 | CMPI64weq R4, 2 | JMP8cs w | MOVIqw R7, 0 | RET
   w: | PUSHn R6 | CALL32 err | MOVqw R0, R0(+1,+0) | RET'
+points error-codes 'R4 int:0..2, R6 int:2..13'
 idiom flag 'neutral' '
   MOVIqw R6, 0 | MOVIqw R4, 0
   n: | CMPI64wugte R4, 17 | JMP8cs d | MOVqw R7, R4 | MOVIqw R5, 2 | MULU64 R7, R5 | MOVRELd R5, chars | ADD64 R5, R7
@@ -281,6 +293,8 @@ idiom_with 'int:1..16' result-code 'neutral' '
   MOVIqw R7, 1
   n: | CMPI64wugte R7, 16 | JMP8cs d | MOVnw R4, @R0(+0,+16) | CMP64eq R4, R7 | JMP8cs d | MOVqw R7, R7(+0,+1) | JMP8 n
   d: | RET'
+points result-code 'R7 int:1..16
+R7 int:1..16'
 idiom retry 'neutral' '
   PUSH64 R1 | PUSH64 R2 | PUSH64 R3 | MOVIqw R3, 3
   n: | CMPI64weq R3, 0 | JMP8cs f | MOVqw R3, R3(-0,-1) | MOVnw R4, @R0(+1,+40) | MOVnw R5, @R0(+2,+40) | PUSHn R5
@@ -350,6 +364,7 @@ idiom two-strings-index 'neutral' '
 idiom two-strings-out 'neutral' '
   MOVnw R7, @R0(+0,+16) | MOVRELd R6, chars | CMPI64weq R7, 0 | JMP8cs w | MOVRELd R6, ten
   w: | MOVnw R4, @R0(+1,+16) | PUSHn R6 | PUSHn R4 | CALL32EXa @R4 | MOVqw R0, R0(+2,+0) | MOVnw R7, R7 | RET'
+points two-strings-out 'R6 ptr:Char16*10, R7 int:0..100'
 idiom while 'neutral' '
   MOVIqw R6, 1 | MOVIqw R4, 0
   n: | CMPI64wugte R4, 17 | JMP8cs d | MOVqw R7, R4 | MOVIqw R5, 2 | MULU64 R7, R5 | MOVRELd R5, chars | ADD64 R5, R7
@@ -362,6 +377,10 @@ idiom while-if-else 'neutral' '
   p: | MOVqw R7, R4 | MOVIqw R5, 2 | MULU64 R7, R5 | MOVRELd R5, chars | ADD64 R5, R7 | MOVww @R5, R6
   MOVqw R4, R4(+0,+1) | JMP8 n
   d: | MOVIqw R7, 0 | RET'
+points while-if-else 'R4 int:0..17
+R4 int:10..16
+R4 int:0..16, R6 int:48..87/3
+R4 int:17..17'
 
 # The points of `infer` serve where those of the search do not: a branch that cannot be taken keeps its type.
 

@@ -214,7 +214,8 @@ left_out() {
   without '[a-z]+' >least.labels
   row 'all left out' 0 own.plan least.labels <own.notes
   without site >n
-  line 'sites left out beside a point' 1 $'refused 0000102a site\nat call' own.plan n
+  line 'sites left out beside a point' 1 $'refused 0000102a site\nat call\nregs R5 ptr:Sys, R7 int:1..2147483647
+stack n int:1..2147483647\nwritten\nmade 1' own.plan n
   longer 'main|half|tick' own.asm | sed 's/^table:/.zero 8\n&/; s/^done:/  MOVqw R4, R4\n&/' >longer.asm
   "$EBC" asm longer.asm own.obj
   neutral 'all left out, with more instructions and data' own.plan least.labels && assemble own
