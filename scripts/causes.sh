@@ -89,7 +89,7 @@ driver.notes:79:1: note: the static object, static[0].place = $place
 .
 done <<'.'
 0x2ffe|0x2ffe|0x3002, and the image ends at 0x3000
-0x1046|tick+0x2|0x104a, and function[1] from 0x1044 up to 0x104a; they share bytes
+0x1046|tick+0x2|0x104a, and function[1] from 0x1044 up to 0x104a; they share bytes; what isn't code stands in the source behind .data
 0x2006|0x2006|0x200a, and thunk[0] from 0x2000 up to 0x2008; they share bytes
 .
 held 0x2008 '[0, 4]' '["x 0 0 i32"]' '.dq 0'
@@ -117,16 +117,25 @@ done <<'.'
 [0, 8]|["q 0 0 p64:D*2"]|d: .dq d|the p64 cell q at 0x2008 is the address of 0x2008, where no static object of 2 D starts
 [0, 8]|["x 0 0 i64"]|.dq cell|a relocation stands in the static object of D that begins at no p64 cell of it
 .
+edit driver.asm $'.data\n' ''
+edit driver.notes 'place = 0x2000' 'place = 0x104A'
+edit driver.notes 'end = 0x104A' 'end = 0x1052'
+made
+slip '.data forgotten' 1 'refused 0000104a static' check out.efi driver.notes <<'.'
+out.efi: tick+0x6: error: static: the thunk cell goes up to 0x1052, and function[1] from 0x1044 up to 0x1052; they share bytes; what isn't code stands in the source behind .data
+driver.notes:24:1: note: the thunk cell, thunk[0].place = 0x104A
+  see docs/RULES.md, "The verdict", static
+.
 edit driver.notes 'place = 0x2000' 'place = 0x1040'
 slip 'a thunk cell over a function' 1 'refused 00001040 static' $check <<'.'
-driver.efi: main+0x40: error: static: the thunk cell goes up to 0x1048, and function[0] from 0x1000 up to 0x1044; they share bytes
+driver.efi: main+0x40: error: static: the thunk cell goes up to 0x1048, and function[0] from 0x1000 up to 0x1044; they share bytes; what isn't code stands in the source behind .data
 driver.notes:24:1: note: the thunk cell, thunk[0].place = 0x1040
   see docs/RULES.md, "The verdict", static
 .
 # The state there is no matter of the rule.
 edit driver.notes 'place = 0x2000' 'place = 0x1006'
 slip 'a thunk cell at an instruction' 1 'refused 00001006 static' $check <<'.'
-driver.efi: main+0x6: error: static: the thunk cell goes up to 0x100e, and function[0] from 0x1000 up to 0x1044; they share bytes
+driver.efi: main+0x6: error: static: the thunk cell goes up to 0x100e, and function[0] from 0x1000 up to 0x1044; they share bytes; what isn't code stands in the source behind .data
   0x1006 BREAK 5
 driver.notes:24:1: note: the thunk cell, thunk[0].place = 0x1006
   see docs/RULES.md, "The verdict", static

@@ -68,6 +68,20 @@ edit driver.script '"tick int 1", "tick int 2"' '"tick ptr 0 0"'
 for _ in 1 2 3 4 5 6 7 8; do printf '[[call]]\nsignature = "again"\nenter = ["tick ptr 0 0"]\nresult = "status ok 0"\n' >>driver.script; done
 of_made 'a tenth function' 64 'end 53 0000104e mismatch depth' \
   "ebc: note: at width 64 a tenth function would be entered while nine haven't returned"
+# `tick` calls Register so, and that call, call[2], makes object 2 before call[1] has its reply.
+makes_within() {
+  in_tick 10 'MOVnw R4, @R0(+0,+16)' 'CALL32EXa @R4(+1,+0)'
+  edit driver.notes '"n int:0..4294967295"' '"n ptr:Sys"'
+  printf '[[signature]]\nname = "again"\nmethod = "Register"\nresult = "status"\n[[site]]\nplace = 0x1048\nsignature = "again"\n' >>driver.notes
+  edit driver.script '"tick int 1", "tick int 2"]' "$1"
+  printf '[[call]]\nsignature = "again"\nresult = "status ok 0"\n[[call.make]]\nshape = "Blk"\ncount = 1\n' >>driver.script
+}
+makes_within '"tick ptr 0 0", "tick ptr 2 0"]'
+of_made 'a callback with an object that a call within made' 64 'end 24 00001038 mismatch enter' \
+  'driver.script:28:26: note: at width 64 callback 1 of call[1], "tick ptr 2 0", can'\''t be entered: parameter 0 of tick is n ptr:Sys, and object 2 is a Blk'
+makes_within $'"tick ptr 0 0"]\nwrite = ["2 0 next int 5"]'
+of_made 'a write into an object that a call within made' 32 'end 24 00001038 mismatch reply' \
+  'driver.script:29:10: note: at width 32 the reply of call[1] doesn'\''t fit: item 0 of write is "2 0 next int 5"; field next of Blk is ptr?:Blk'
 # The cell is at 0x2000 in the image, which comes after 16,464 bytes of the native area and nine times 32 of the stack, each with 16 more.
 edit driver.notes $'enter = true\n' ''
 of_made 'mismatch thunk' 32 'end 2 00001008 mismatch thunk' \

@@ -372,6 +372,8 @@ label_marks() {
   told 'a fault in brackets without a label' driver.plan 'missing thunk[0].place' 'thunk = [{ function = "main" }]'
   told 'the first fault of labels' driver.plan 'name static[0].place stati 4:21' \
     'site = [{ place = "sit" }] | point = [{ place = "poin" }] | thunk = [{ place = "thun" }] | static = [{ place = "stati" }]'
+  told 'a header with blanks' driver.plan 'kind function[1].enters 3:1' ' [[ function ]] | name = "main" | [[function]] | name = "tick" | enters = true'
+  told 'a label behind a header with blanks' driver.plan 'name thunk[1].place cel 4:9' '[[ thunk ]] | place = "cell" | [["thunk"]] | place = "cel"'
   told 'a place before an end' driver.plan 'name function[0].place plac 4:9' '[[function]] | name = "main" | end = "en" | place = "plac"'
 }
 
@@ -534,6 +536,13 @@ said_left_out() {
   said 'two signatures that fit' own.plan n < <(
     echo 'n: 0x102a: error: site: Put is called here, at 0x102a, where the notes have no site; main has sites at: none'
     split '  0x102a CALL32EXa @R5|  a site is found where one signature alone of the method takes what lies on the stack; there are: put, other'
+    split '  put takes what lies on the stack|  other takes what lies on the stack'
+    see_refusal site)
+  { sed '/^name = "put"/,/^result/s/n int:0..4294967295/n handle/' least.labels; table signature 'method = "Put" | name = "other" | params = ["n any", "n any"] | result = "none"'; } >n
+  said 'two signatures of which none fits' own.plan n < <(
+    echo 'n: 0x102a: error: site: Put is called here, at 0x102a, where the notes have no site; main has sites at: none'
+    split '  0x102a CALL32EXa @R5|  a site is found where one signature alone of the method takes what lies on the stack; there are: put, other'
+    split '  put: argument 0 is n int:0..2147483647, and n handle is wanted|  other: argument 1 is not there, and n any is wanted'
     see_refusal site)
   without site >n
   said 'no site beside a point' own.plan n < <(
@@ -557,7 +566,7 @@ s/^place = .*/&\n&/~:23:1: error: this is no TOML: duplicate key~"The file" and 
 s/^function = .*/function = "tock"/~:23:12: error: thunk[0].function is "tock", which names a function that the notes don't have~  they have: main, tick|  see docs/NOTES.md, "The file" and "Texts"
 s/ptr[?]:Blk/ptr?:Block/~:13:28: error: item 1 of shape[1].fields is "next 1 0 ptr?:Block", which names the shape Block that the notes don't have~  they have: Sys, Blk, L|  see docs/NOTES.md, "The file" and "Texts"
 s/int:0..4294967295/saved:1/~:33:10: error: item 0 of function[1].params is "n saved:1"; wanted in a natural parameter: another type than saved:I, which MOVn doesn't keep~"The conditions"
-s/^name = "tick"/&\nplace = "main"/~:33:9: error: function[1].place is the place of another table of that list, too~"The conditions"
+s/^name = "tick"/&\nplace = "main"/~:33:9: error: function[1].place is the place of function[0], too~n:25:1: note: function[0]|  see docs/NOTES.md, "The conditions"
 s/^place = "cell"/place = "cel"/~:22:9: error: thunk[0].place is "cel", and no object has a label cel~  near to it: cell|  see docs/LABELS.md, "Faults of labels"
 s/^place = "cell"/place = "cell + 4"/~:22:9: error: thunk[0].place is "cell + 4"; wanted: LABEL or OBJECT:LABEL, and +N behind it with N from 0 to 4194303~  see docs/LABELS.md, "Faults of labels"
 s/^place = "cell"/place = "drive.obj:cell"/~:22:9: error: thunk[0].place is "drive.obj:cell", and the plan names no object drive.obj~  it names: driver.obj|  see docs/LABELS.md, "Faults of labels"

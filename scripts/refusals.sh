@@ -58,7 +58,7 @@ driver.notes:52:17: error: item 1 of point[0].written is "q"; wanted: fields of 
 edit driver.notes $'result = "status"\n\n[[function]]' $'resut = "status"\n\n[[function]]'
 slip 'a misspelt key that has to be there' 3 'bad driver.notes missing function[0].result' $check <<'.'
 driver.notes:27:1: error: function[0] has no key result; wanted: a text TYPE
-  keys there that are none: resut
+  keys that don't belong there: resut
   see docs/NOTES.md, "The file" and "Texts"
 .
 edit driver.notes 'enter = true' 'entr = true'
@@ -128,6 +128,44 @@ edit driver.notes $'need = [0, 0]\nparams = ["n int:0..4294967295"]\nresult = "s
 slip 'a result that the firmware does not take' 3 'bad driver.notes range function[1].result' $check <<'.'
 driver.notes:44:10: error: function[1].result is "handle"; wanted, as the firmware enters tick: any, int:LO..HI with HI below 4294967296, or status
   see docs/NOTES.md, "The conditions"
+.
+
+edit driver.notes 'need = [2, 0]' $'need = [\n  -2,\n  0\n]'
+slip 'a list of several lines' 3 'bad driver.notes range function[0].need' $check <<'.'
+driver.notes:32:8: error: function[0].need is [ -2, 0 ]; wanted: a pair [N, C] of numbers from 0 on
+  see docs/NOTES.md, "The file" and "Texts"
+.
+edit driver.notes 'entry = "main"' "entry = \"$long\""
+slip 'a name of 200 letters' 3 'bad driver.notes range entry' $check <<.
+driver.notes:3:9: error: entry is "${long:0:99}..; wanted: the name of the entry function, a text
+  see docs/NOTES.md, "The file" and "Texts"
+.
+edit driver.notes 'entry = "main"' $'entry = "main"\n'"$long = 1"
+slip 'a key of 200 letters' 3 "bad driver.notes kind $long" $check <<.
+driver.notes:4:1: error: $cut is no key of this table
+  see docs/NOTES.md, "The file" and "Texts"
+.
+edit driver.notes $'level = 1\n' "$(printf 'k%s = 1\n' {10..79})"$'\n'
+slip 'seventy keys that are none' 3 'bad driver.notes missing function[0].level' $check <<.
+driver.notes:27:1: error: function[0] has no key level; wanted: a number from 0 on
+  keys that don't belong there: $(printf 'k%s, ' {10..73})..
+  see docs/NOTES.md, "The file" and "Texts"
+.
+printf 'version = 1\nentry = "main"\n[[function]]\nname = "main"\nplace = 0x1000\nend = 0x1044\nlevel = 0\nneed = [0, 0]\nparams = ["n ptr:Sys"]\nresult = "any"\n' >driver.notes
+slip 'a shape of notes without shapes' 3 'bad driver.notes name function[0].params' $check <<'.'
+driver.notes:9:11: error: item 0 of function[0].params is "n ptr:Sys", which names the shape Sys that the notes don't have
+  they have none
+  see docs/NOTES.md, "The file" and "Texts"
+.
+edit driver.notes '[[thunk]]' '[thunk]'
+slip 'a header in single brackets' 3 'bad driver.notes kind thunk' $check <<'.'
+driver.notes:23:1: error: thunk is a table; wanted: a list of tables, each under [[thunk]]
+  see docs/NOTES.md, "The file" and "Texts"
+.
+edit driver.notes '[[site]]' '[site]'
+slip 'a header in single brackets before one in double ones' 3 'bad driver.notes nottoml -' $check <<'.'
+driver.notes:71:1: error: this is no TOML: duplicate key; the tables of a list stand each under a header in double brackets, as [[static]], and one in single brackets stands once
+  see docs/NOTES.md, "The file" and "Texts"
 .
 
 # ---- rules
@@ -454,7 +492,7 @@ out.efi: tick+0x6: error: address: R4 is any, and an address is wanted: a pointe
 in_tick 4 'MOVqw R4, @R0(+0,+16)'
 made
 slip 'a load by another move' 1 'refused 00001044 address' check out.efi driver.notes <<'.'
-out.efi: tick+0x0: error: address: a parameter n int:0..4294967295 is loaded by a MOVq; it is loaded by MOVn where it is n and by MOVq where it is q, and never stored to
+out.efi: tick+0x0: error: address: a parameter n int:0..4294967295 is loaded by a MOVq; it is loaded by MOVn, and never stored to
   0x1044 MOVqw R4, @R0(+0,+16)
   regs
   stack
@@ -473,6 +511,51 @@ out.efi: tick+0x0: error: address: no local field or parameter begins at R0 and 
   written
   made 1
   see docs/RULES.md, "The verdict", address
+.
+in_tick 4 'MOVnw R4, @R0(+1,+16)'
+edit driver.notes $'params = ["n int:0..4294967295"]\n' ''
+made
+slip 'a parameter of a function without one' 1 'refused 00001044 address' check out.efi driver.notes <<'.'
+out.efi: tick+0x0: error: address: no local field or parameter begins at R0 and (1, 16)
+  above R0 lie no items and no parameters
+  0x1044 MOVnw R4, @R0(+1,+16)
+  regs
+  stack
+  written
+  made 1
+  see docs/RULES.md, "The verdict", address
+.
+edit driver.notes 'fields = ["loc 0 0 method:Locate", "reg 1 0 method:Register"]' 'fields = []'
+slip 'a shape without fields' 1 'refused 00001014 address' $check <<'.'
+driver.efi: main+0x14: error: address: R4 is ptr:Sys, and Sys has no field that begins at (0, 0)
+  Sys has no fields
+  0x1014 CALL32EXa @R4
+  regs R4 ptr:Sys, R5 local:p, R7 thunk:0
+  stack n local:p, locals
+  written
+  made 1
+driver.notes:9:1: note: the shape's fields, shape[0].fields = []
+  see docs/RULES.md, "The verdict", address
+.
+while IFS='~' read -r type words; do
+  in_tick 8 'MOVnw R4, @R0(+0,+16)' 'MOVdw R5, @R4(+2,+0)'
+  edit driver.notes '"n int:0..4294967295"' "\"n $type\""
+  made
+  slip "a field past an instance: $type" 1 'refused 00001048 address' check out.efi driver.notes <<.
+out.efi: tick+0x4: error: address: R4 is $type, and Blk has no field that begins at (2, 0)
+  Blk has, nearest first: next ptr?:Blk at (1, 0), count i32 at (0, 0)
+  Blk has size (2, 0), and $words
+  0x1048 MOVdw R5, @R4(+2,+0)
+  regs R4 $type
+  stack
+  written
+  made 1
+driver.notes:15:1: note: the shape's fields, shape[1].fields = ["count 0 0 i32", "next 1 0 ptr?:Blk"]
+  see docs/RULES.md, "The verdict", address
+.
+done <<'.'
+ptr:Blk~the pointer leads to one instance
+ptr:Blk*4~an operand reaches the first instance alone; a number times the size, added to the pointer, leads to another
 .
 in_tick 6 'MOVnw R4, @R0(+0,+16)' 'MOVdw R5, @R4'
 edit driver.notes '"n int:0..4294967295"' '"n ptr?:Blk"'
@@ -558,6 +641,26 @@ out.efi: tick+0x0: error: target: the jump goes to 0x103e, outside tick, which i
   0x1044 JMP8 -4
   see docs/RULES.md, "The verdict", target
 .
+in_tick 2 'JMP8 end'
+edit driver.asm $'  RET\n.data' $'  RET\nend:\n.data'
+made
+slip "a jump to the function's end" 1 'refused 00001044 target' check out.efi driver.notes <<'.'
+out.efi: tick+0x0: error: target: the jump goes to 0x104c, where tick ends; an instruction is wanted there, as RET
+  0x1044 JMP8 3
+  see docs/RULES.md, "The verdict", target
+.
+while IFS='~' read -r line words; do
+  in_tick 6 "$line"
+  made
+  slip "a target before the image: $line" 1 'refused 00001044 target' check out.efi driver.notes <<.
+out.efi: tick+0x0: error: target: the $words
+  0x1044 $line
+  see docs/RULES.md, "The verdict", target
+.
+done <<'.'
+CALL32 -10000~call goes to -0x16c6, where no function of the notes begins
+JMP32 -10000~jump goes to -0x16c6, outside tick, which is 0x1044 up to 0x1050
+.
 in_tick 6 'CALL32 main'
 made
 slip 'a call of the entry function' 1 'refused 00001044 target' check out.efi driver.notes <<'.'
@@ -614,6 +717,18 @@ driver.script:28:29: error: item 1 of call[1].write is "0 0 count int 5", and ob
   Sys has: loc, reg
   objects: 0 of Sys, 1 of Blk
   see docs/SCRIPTS.md, "The file" and "Texts"
+.
+edit driver.script 'out = ["0 ptr 1 0"]' 'write = ["1 0 cont int 5", "1 0 next method Locat"]'
+slip 'two writes with names that are not there' 3 'bad driver.script name call[0].write' $twin <<'.'
+driver.script:21:10: error: item 0 of call[0].write is "1 0 cont int 5", and object 1 is a Blk, which has no field cont
+  Blk has: count, next
+  objects: 0 of Sys, 1 of Blk
+  see docs/SCRIPTS.md, "The file" and "Texts"
+.
+edit driver.script 'out = ["0 ptr 1 0"]' 'write = ["1 5 count int 5"]'
+slip 'a write to an instance that is not there' 3 'bad driver.script range call[0].write' $twin <<'.'
+driver.script:21:10: error: item 0 of call[0].write is "1 5 count int 5", and object 1 is a Blk, and there is no instance 5, counted from 0
+  see docs/SCRIPTS.md, "What the reader refuses"
 .
 edit driver.script $'cells = ["0 loc method Locate", "0 reg method Register"]\n' ''
 slip 'the cells of methods left out' 3 'bad driver.script range object[0].cells' $twin <<'.'
@@ -702,7 +817,7 @@ ebc: note: at width 32 the run goes on after 10 steps; wanted: more STEPS, 10000
 edit pair.binds 'method =' 'methd ='
 slip 'a misspelt key' 3 'bad pair.binds missing bind[0].method' pair $consumer $provider pair.binds 1000 <<'.'
 pair.binds:4:1: error: bind[0] has no key method; wanted: the name of a method of the first image's notes, a text
-  keys there that are none: methd
+  keys that don't belong there: methd
   see docs/PAIRS.md, "A text of binds"
 .
 edit pair.binds 'function = "double"' 'function = "trouble"'

@@ -154,6 +154,17 @@ slip 'no words' 2 usage  <<'.'
 ebc: error: no words; a command is wanted: asm, link, check, list, run, twin, sample, rom, infer or pair
   see docs/COMMANDS.md, "Commands"
 .
+long=$(printf 'x%.0s' {1..200})
+cut=${long:0:100}..
+slip 'a command of 200 letters' 2 usage "$long" <<.
+ebc: error: \`$cut\` is no command; wanted: asm, link, check, list, run, twin, sample, rom, infer or pair
+  see docs/COMMANDS.md, "Commands"
+.
+slip 'WIDTH of 200 letters' 2 usage run "$long" driver.efi driver.notes driver.script 1000 <<.
+ebc: error: WIDTH is \`$cut\`; wanted: 32 or 64
+  usage: run WIDTH IMAGE NOTES SCRIPT STEPS
+  see docs/COMMANDS.md, "Commands"
+.
 slip 'asks for help' 2 usage --help <<'.'
 ebc: error: `--help` is no command; wanted: asm, link, check, list, run, twin, sample, rom, infer or pair
   see docs/COMMANDS.md, "Commands"
@@ -238,6 +249,15 @@ slip 'a folder in place of a file' 4 '' check . driver.notes <<'.'
 slip 'check of an image, notes forgotten' 1 'refused 00000000 form' check driver.efi <<'.'
 driver.efi:0x0: error: form: the file begins as an image, and `check` with one file takes raw code; wanted: check IMAGE NOTES
   see docs/PLAIN.md, "The check"
+.
+while IFS='~' read -r file rule; do
+  slip "check of $file alone" 1 "refused 00000000 $rule" check "$file" <<.
+$file:0x0: error: $rule: the file is a text, and \`check\` with one file takes raw code; a source is assembled by asm and linked by link first
+  see docs/PLAIN.md, "The check"
+.
+done <<'.'
+driver.asm~decode
+driver.notes~form
 .
 slip 'a source given to check' 3 'bad driver.asm mz 0' check driver.asm driver.notes <<'.'
 driver.asm:0x0: error: the first bytes are 3b 20; wanted: 4d 5a, MZ, with which an image begins; it is a text
@@ -437,6 +457,21 @@ driver.asm:31:3: error: the section passes 1048576 bytes here
   see docs/ASSEMBLY.md, "Faults"
 .
 
+# Of a long word its first 100 letters are told.
+while IFS='~' read -r line fault words; do
+  edit driver.asm '  BREAK 5' "${line//LONG/$long}"
+  slip "a long word: $line" 3 "bad driver.asm $fault 5" $asm <<.
+driver.asm:5:${words//LONG/$cut}
+  see docs/ASSEMBLY.md, "Faults"
+.
+done <<'.'
+  LONG R4~word~3: error: `LONG` is no mnemonic; they are written in upper case with the bits of what follows, as MOVqw and CMPI64weq
+  BREAK LONG~number~9: error: `LONG` is no number of BREAK; wanted: -128 to 255, in decimal digits without a 0 in front, or 0x and hexadecimal digits
+  RET LONG~operand~7: error: `LONG` are no operands of RET; wanted: none
+LONG:~label~1: error: `LONG` is no label; a name is 1 to 63 letters, digits, _ and ., with no digit in front, and no space before its colon
+  .zero LONG~number~9: error: `LONG` is no count of zeros; wanted: decimal digits without a sign and without a 0 in front, or 0x and hexadecimal digits
+.
+
 # ---- links
 
 edit driver.asm 'JMP8cs failed' 'JMP8cs fialed'
@@ -490,7 +525,7 @@ driver.asm:0x0: error: the first four bytes aren't EBCO, with which an object be
 .
 cut_to driver.obj driver.obj 100
 slip 'an object that is cut off' 3 'bad driver.obj short 98' $link <<'.'
-driver.obj:0x62: error: a field ends past the file, which has 100 bytes: it is cut off
+driver.obj:0x62: error: a field ends past the file, which has 100 bytes: it is cut off, or a length or count before is another
   see docs/OBJECTS.md, "Reading"
 .
 
@@ -562,6 +597,11 @@ slip 'a text' 3 'bad driver.notes mz 0' list driver.notes <<'.'
 driver.notes:0x0: error: the first bytes are 23 20; wanted: 4d 5a, MZ, with which an image begins; it is a text
   see docs/IMAGES.md, "Faults, and what to do about them"
 .
+head -c 200 /dev/zero >zeros
+slip 'a file of zeros' 3 'bad zeros mz 0' list zeros <<'.'
+zeros:0x0: error: the first bytes are 00 00; wanted: 4d 5a, MZ, with which an image begins
+  see docs/IMAGES.md, "Faults, and what to do about them"
+.
 { printf '\x7fELF\x02\x01\x01'; head -c 200 /dev/zero; } >program
 slip 'an ELF program' 3 'bad program mz 0' list program <<'.'
 program:0x0: error: the first bytes are 7f 45; wanted: 4d 5a, MZ, with which an image begins; it begins as an ELF program
@@ -594,7 +634,20 @@ driver.efi:0x0: error: the first two bytes of an image are 0x5a4d; wanted: 0xaa5
 .
 cut_to cut.rom driver.rom 1500
 slip 'a ROM that is cut off' 3 'bad cut.rom length 44' rom list cut.rom <<'.'
-cut.rom:0x2c: error: the image has 4 blocks of 512 bytes, 2048 in all, and the file has 1500 bytes: it is cut off, or the length is none
+cut.rom:0x2c: error: the image at 0x0 has 4 blocks of 512 bytes, up to 0x800, and the file ends at 0x5dc: it is cut off
+  see docs/ROMS.md, "Faults, and what to do about them"
+.
+# Two images, of which the first isn't marked as the last.
+cat driver.rom driver.rom >both.rom
+patch two.rom both.rom 49 '\x00'
+cut_to two.rom two.rom 3000
+slip 'a ROM that is cut off in its second image' 3 'bad two.rom length 2092' rom list two.rom <<'.'
+two.rom:0x82c: error: the image at 0x800 has 4 blocks of 512 bytes, up to 0x1000, and the file ends at 0xbb8: it is cut off
+  see docs/ROMS.md, "Faults, and what to do about them"
+.
+patch none.rom driver.rom 44 '\x00\x00'
+slip 'a ROM whose length is 0' 3 'bad none.rom length 44' rom list none.rom <<'.'
+none.rom:0x2c: error: ImageLength is 0; wanted: how many blocks of 512 bytes the image has
   see docs/ROMS.md, "Faults, and what to do about them"
 .
 

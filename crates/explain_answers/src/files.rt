@@ -23,7 +23,7 @@ fn asked_line(answer: &Answer) -> Line {
     match answer.first_of(Use::Read, "") {
         Some(place) => {
             let mut object = Line::of(alloc, "an object of ");
-            object.text(place.word);
+            object.word(place.word);
             object
         }
         None => Line::of(alloc, "the file"),
@@ -60,7 +60,7 @@ fn large_file(answer: &Answer, slot: Slot, name: &str) -> Line {
         }
         Slot::Plan if !answer.asked.is_empty() && answer.asked != name => {
             let mut what = Line::of(alloc, "an object of ");
-            what.text(name).text(" has");
+            what.word(name).text(" has");
             write_limit(limit, &mut what);
             what
         }
@@ -87,7 +87,7 @@ fn large_file(answer: &Answer, slot: Slot, name: &str) -> Line {
 fn large_number(answer: &Answer, slot: Slot, word: &str) -> Line {
     let mut what = Line::of(answer.alloc, slot.name());
     what.text(" is ")
-        .text(word)
+        .word(word)
         .text("; wanted: ")
         .number(slot.limit())
         .text(" at most");

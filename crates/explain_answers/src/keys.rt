@@ -21,7 +21,7 @@ fn note_line(answer: &Answer, read: &Read, offset: usize) -> Line {
     line
 }
 
-// The line of a key of the notes, which stands in their text: its place, what is said of it, and its value if that is short.
+// The line of a key of the notes, which stands in their text: its place, what is said of it, and its value.
 fn key_line(answer: &Answer, read: &Read, span: &KeySpan, said: &Said) -> Line {
     let mut line = note_line(answer, read, span.key);
     line.text(said.note).text(", ").line(&said.key);
@@ -29,8 +29,8 @@ fn key_line(answer: &Answer, read: &Read, span: &KeySpan, said: &Said) -> Line {
         Some(part) => std::str::from_utf8(part).unwrap_or("").trim_end(),
         None => "",
     };
-    if !says.is_empty() && says.len() <= 120 && !says.starts_with("[[") {
-        line.text(" = ").text(says);
+    if !says.is_empty() && !says.starts_with("[[") {
+        line.text(" = ").value(says);
     }
     line
 }

@@ -13,7 +13,7 @@ use ebc_base::NoMemory;
 use ebc_decode::decode;
 use ebc_insn::{Insn, well_formed};
 use ebc_outside::MemFolder;
-use explain_base::{Line, Said, Scene};
+use explain_base::{Line, Said, Scene, is_text};
 use explain_checks::{Refused, check_said};
 use explain_rows::row_said;
 use file_inputs::read_as;
@@ -175,7 +175,7 @@ pub(crate) fn read_said(
         add_before(alloc, read.image, read.notes, at, rule, &mut said)?;
     }
     if let RuleName::Site = rule {
-        add_cause(answer, read, place, &mut said)?;
+        add_cause(answer, read, place, at, &mut said)?;
     }
     if !said.key.is_empty() {
         add_key(answer, read, &mut said)?;
@@ -256,6 +256,9 @@ pub fn refused_image_said(
 // What is said of a rule that plain code breaks.
 fn code_text(code: &[u8], rule: RuleName) -> &'static str {
     match rule {
+        _ if is_text(code) => {
+            "the file is a text, and `check` with one file takes raw code; a source is assembled by asm and linked by link first"
+        }
         RuleName::Form if code.starts_with(b"MZ") => {
             "the file begins as an image, and `check` with one file takes raw code; wanted: check IMAGE NOTES"
         }
@@ -274,7 +277,7 @@ fn code_text(code: &[u8], rule: RuleName) -> &'static str {
 // Adds the line of the instruction at a place of raw code, if one decodes there.
 fn add_code(code: &[u8], place: u32, said: &mut Said) {
     let offset = place as usize;
-    if offset <= code.len() && !code.starts_with(b"MZ") {
+    if offset <= code.len() && !code.starts_with(b"MZ") && !is_text(code) {
         if let Ok((insn, _)) = decode(code, offset) {
             said.add(instruction_line(said.what.alloc, place, &insn));
         }

@@ -87,11 +87,11 @@ fn unknown(answer: &Answer) -> Said {
         what.text("no words; a command is wanted: ").text(COMMANDS);
     } else if command == "rom" {
         what.text("`rom ")
-            .text(answer.word(1))
+            .word(answer.word(1))
             .text("` is no command; wanted: rom wrap, rom list or rom take");
     } else {
         what.text("`")
-            .text(command)
+            .word(command)
             .text("` is no command; wanted: ")
             .text(wanted_program(command));
     }
@@ -124,7 +124,7 @@ fn misshapen(answer: &Answer, slots: &[Slot]) -> Said {
         let word = answer.word(number.saturating_add(skipped));
         if let Some(form) = wanted(*slot, word) {
             let mut what = Line::of(answer.alloc, slot.name());
-            what.text(" is `").text(word).text("`; wanted: ").text(form);
+            what.text(" is `").word(word).text("`; wanted: ").text(form);
             return Said::only(what);
         }
     }

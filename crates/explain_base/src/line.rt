@@ -4,6 +4,22 @@ use ebc_base::NoMemory;
 use std::alloc::Global;
 use std::fmt::Write;
 
+/// Bytes of a word or a value that are told.
+const MOST_BYTES: usize = 100;
+
+// The beginning of a long text; none of another. No character is cut.
+fn beginning(text: &str) -> Option<&str> {
+    if text.len() <= MOST_BYTES {
+        return None;
+    }
+    for cut in 0..4usize {
+        if let Some(part) = text.get(..MOST_BYTES - cut) {
+            return Some(part);
+        }
+    }
+    None
+}
+
 /// A text that is being written. It remembers want of memory and tells it at its end, so that adding to it has one exit.
 #[derive(Drop)]
 pub struct Line {
@@ -43,6 +59,33 @@ impl Line {
         self.kept(added.is_ok())
     }
 
+    /// Adds a word of a call or of a file; of a long one the first 100 bytes, and `..` behind them.
+    pub fn word(&mut self, word: &str) -> &mut Line {
+        match beginning(word) {
+            Some(part) => self.text(part).text(".."),
+            None => self.text(word),
+        }
+    }
+
+    /// Adds a value as it stands in a file, its lines as one; of a long one the first 100 bytes, and `..` behind them.
+    pub fn value(&mut self, value: &str) -> &mut Line {
+        let part = beginning(value);
+        for (number, line) in part.unwrap_or(value).lines().enumerate() {
+            if number == 0 {
+                self.text(line);
+            } else {
+                self.text(" ").text(line.trim_start());
+            }
+        }
+        self.text(if part.is_some() { ".." } else { "" })
+    }
+
+    /// Adds a list behind a text, or another text where the list is empty.
+    pub fn list(&mut self, before: &str, items: &Line, none: &str) -> &mut Line {
+        self.text(if items.is_empty() { none } else { before })
+            .line(items)
+    }
+
     /// Adds a character.
     pub fn letter(&mut self, letter: char) -> &mut Line {
         let added = self.text.push(letter);
@@ -77,9 +120,12 @@ impl Line {
         self.hexadecimal(u64::from(place))
     }
 
-    /// Adds the place that an instruction names, in hexadecimal digits, after `0x`. It may lie outside of the image.
+    /// Adds the place that an instruction names, in hexadecimal digits, after `0x`. It may lie outside of the image: before it, it
+    /// has a minus sign.
     pub fn target(&mut self, place: i128) -> &mut Line {
-        let added = write!(self.text, "0x{place:x}");
+        let bytes = place.unsigned_abs();
+        let sign = if place < 0 { "-" } else { "" };
+        let added = write!(self.text, "{sign}0x{bytes:x}");
         self.kept(added.is_ok())
     }
 

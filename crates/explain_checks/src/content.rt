@@ -46,9 +46,9 @@ pub(crate) fn content_of_blank(
     }
     what.text(" depends on the width, and ");
     if let Some(r) = reloc_in(image, range.from, range.to) {
-        what.text("a relocation stands at ")
-            .at(r)
-            .text(", where none is wanted");
+        what.text("a relocation stands at ").at(r).text(
+            ", where none is wanted; the address that .dq makes stands in a cell p64 or p64? of a shape without natural units",
+        );
         return Some(what);
     }
     let place = nonzero_in(image, range.from, range.to)?;

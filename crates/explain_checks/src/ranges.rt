@@ -100,6 +100,10 @@ pub(crate) fn misplaced(refused: &Refused, name: Line, it: &Range) -> Option<Lin
     what.text(" up to ")
         .hexadecimal(other.to)
         .text("; they share bytes");
+    what.text(match other.list {
+        "function" => "; what isn't code stands in the source behind .data",
+        _ => "",
+    });
     Some(what)
 }
 

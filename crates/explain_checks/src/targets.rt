@@ -43,7 +43,13 @@ fn jump_line(stopped: &Stopped, place: i128) -> Line {
     let (name, from, to) = (stopped.f.name.as_str(), stopped.f.place, stopped.f.end);
     let mut what = Line::of(stopped.refused.alloc, "the jump goes to ");
     what.target(place);
-    if place < i128::from(from) || i128::from(to) <= place {
+    if place == i128::from(to) {
+        what.text(", where ")
+            .text(name)
+            .text(" ends; an instruction is wanted there, as RET");
+        return what;
+    }
+    if place < i128::from(from) || i128::from(to) < place {
         what.text(", outside ").text(name).text(", which is ");
         what.at(from).text(" up to ").at(to);
         return what;

@@ -1,6 +1,6 @@
 //! Numbers at an offset of a file that may be cut off, how they are told, and what a file seems to be.
 
-use explain_base::Line;
+use explain_base::{Line, is_text};
 
 // The byte at an offset; 0 past the end.
 fn byte_at(file: &[u8], at: usize) -> u8 {
@@ -51,8 +51,5 @@ pub(crate) fn guess(file: &[u8]) -> &'static str {
     if file.starts_with(b"\x7fELF") {
         return "; it begins as an ELF program";
     }
-    match std::str::from_utf8(file) {
-        Ok("") | Err(_) => "",
-        Ok(_) => "; it is a text",
-    }
+    if is_text(file) { "; it is a text" } else { "" }
 }

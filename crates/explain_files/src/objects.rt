@@ -36,7 +36,7 @@ fn write_fault(file: &[u8], kind: ObjectFault, offset: usize, line: &mut Line) {
         ObjectFault::Short => {
             line.text("a field ends past the file, which has ")
                 .count(file.len())
-                .text(" bytes: it is cut off");
+                .text(" bytes: it is cut off, or a length or count before is another");
         }
         ObjectFault::Mark => write_mark(file, offset, line),
         ObjectFault::Count => write_count(file, offset, line),

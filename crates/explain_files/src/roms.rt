@@ -31,16 +31,37 @@ fn write_mark(file: &[u8], offset: usize, line: &mut Line) {
     });
 }
 
+// Where the image begins whose length is at an offset: each image before it has its length in its PCI data structure.
+fn start_of(file: &[u8], offset: usize) -> usize {
+    let mut at = 0usize;
+    for _ in 0..file.len() {
+        let pcir = at.saturating_add(usize::from(u16_at(file, at.saturating_add(24))));
+        let length = pcir.saturating_add(16);
+        if length == offset || file.len() <= at {
+            return at;
+        }
+        at = at.saturating_add(512 * usize::from(u16_at(file, length)));
+    }
+    at
+}
+
 // Writes of an image whose length is 0 or leads past the file.
 fn write_length(file: &[u8], offset: usize, line: &mut Line) {
     let blocks = u64::from(u16_at(file, offset));
-    line.text("the image has ")
+    if blocks == 0 {
+        line.text("ImageLength is 0; wanted: how many blocks of 512 bytes the image has");
+        return;
+    }
+    let start = start_of(file, offset) as u64;
+    line.text("the image at ")
+        .hexadecimal(start)
+        .text(" has ")
         .number(blocks)
-        .text(" blocks of 512 bytes, ")
-        .number(blocks * 512)
-        .text(" in all, and the file has ")
-        .count(file.len());
-    line.text(" bytes: it is cut off, or the length is none");
+        .text(" blocks of 512 bytes, up to ")
+        .hexadecimal(start.saturating_add(blocks * 512));
+    line.text(", and the file ends at ")
+        .hexadecimal(file.len() as u64)
+        .text(": it is cut off");
 }
 
 // Writes of an EFI image with another signature, or one that begins past its end.
@@ -122,9 +143,10 @@ fn is_signed(image: &[u8]) -> bool {
 fn unfilled_said(alloc: Global, image: &[u8]) -> Said {
     let size = image.len();
     let mut what = Line::of(alloc, "the image is signed, and its ");
-    what.count(size)
-        .text(" bytes behind the 56 of the header fill no whole blocks of 512: ");
-    what.text("firmware hashes the zeros behind it, too, and refuses the signature; scripts/sign.sh pads an image before it signs it");
+    what.count(size).text(" bytes behind the 56 of the header fill no whole blocks of 512: ");
+    what.text(
+        "firmware hashes the zeros behind it, too, and refuses the signature; scripts/sign.sh pads an image before it signs it",
+    );
     Said::with_page(what, "docs/ROMS.md, \"Secure Boot and signatures\"")
 }
 
@@ -137,10 +159,7 @@ pub fn wrapped_said(alloc: Global, image: &[u8]) -> Option<Said> {
             .text(", ")
             .text(why)
             .text("; wanted: 11, a boot service driver");
-        return Some(Said::with_page(
-            what,
-            "docs/ROMS.md, \"What a firmware asks of a ROM\"",
-        ));
+        return Some(Said::with_page(what, "docs/ROMS.md, \"What a firmware asks of a ROM\""));
     }
     let filled = image.len().saturating_add(56) % 512 == 0;
     if is_signed(image) && !filled {

@@ -1,7 +1,7 @@
 //! What is said of the first fault of notes with labels.
 
 use crate::behind::Behind;
-use crate::filled::filled_text;
+use crate::filled::{filled_text, first_with_place};
 use crate::labels::label_said;
 use crate::text::LabelledText;
 use ebc_base::NoMemory;
@@ -104,19 +104,38 @@ fn range_said(t: &LabelledText, path: &str, fault: &TomlFault) -> Result<Said, N
     Ok(said)
 }
 
+// What is said of a place that an earlier table of its list has, too, with the line of that table.
+fn place_said(t: &LabelledText, path: &str) -> Result<Said, NoMemory> {
+    let mut earlier = Line::new(t.alloc);
+    if let (Some(number), Some((list, _))) = (first_with_place(t, path)?, path.split_once('[')) {
+        earlier.text(list).text("[").count(number).text("]");
+    }
+    let mut what = Line::of(t.alloc, path);
+    what.list(
+        " is the place of ",
+        &earlier,
+        " is the place of another table of that list",
+    )
+    .text(", too");
+    let mut said = Said::with_page(what, "docs/NOTES.md, \"The conditions\"");
+    write_place(t, path, &mut said.at)?;
+    let mut at = Line::new(t.alloc);
+    write_place(t, earlier.as_str(), &mut at)?;
+    if !at.is_empty() {
+        let mut note = Line::of(t.alloc, t.file);
+        note.line(&at).text(": note: ").line(&earlier);
+        said.add_note(note);
+    }
+    Ok(said)
+}
+
 // What is said of a fault that is no label's.
 fn fault_said(t: &LabelledText, fault: &TomlFault) -> Result<Said, NoMemory> {
     match fault {
         TomlFault::NotToml => not_toml_said(t, fault),
         TomlFault::Missing(path) | TomlFault::Kind(path) => form_said(t, path.as_str(), fault),
         TomlFault::Range(path) => range_said(t, path.as_str(), fault),
-        TomlFault::Twice(path) if path.as_str().ends_with(".place") => {
-            let mut what = Line::of(t.alloc, path.as_str());
-            what.text(" is the place of another table of that list, too");
-            let mut said = Said::with_page(what, "docs/NOTES.md, \"The conditions\"");
-            write_place(t, path.as_str(), &mut said.at)?;
-            Ok(said)
-        }
+        TomlFault::Twice(path) if path.as_str().ends_with(".place") => place_said(t, path.as_str()),
         _ => notes_said(t, t.bytes, fault),
     }
 }

@@ -76,6 +76,37 @@ fn filled_table(t: &LabelledText, table: Table) -> Result<Option<Filled>, NoMemo
     }
 }
 
+// The place of a table of a list, by its number.
+fn place_in(items: &[Value], number: usize) -> Option<i64> {
+    items.get(number)?.get("place")?.as_integer()
+}
+
+// The number of the first table before that of a path that has its place.
+fn first_there(table: &Table, path: &str) -> Option<usize> {
+    let (list, rest) = path.split_once('[')?;
+    let (digits, _) = rest.split_once(']')?;
+    let number = digits.parse::<usize>().ok()?;
+    let items = items_at(table, list);
+    let place = place_in(items, number)?;
+    for other in 0..number {
+        if place_in(items, other) == Some(place) {
+            return Some(other);
+        }
+    }
+    None
+}
+
+/// The number of the first table of the list of a path that has the same place in the text with places for its labels.
+pub(crate) fn first_with_place(t: &LabelledText, path: &str) -> Result<Option<usize>, NoMemory> {
+    let Some(filled) = filled_text(t)? else {
+        return Ok(None);
+    };
+    match toml::table_from_slice(t.alloc, filled.as_bytes()) {
+        Ok(table) => Ok(first_there(&table, path)),
+        Err(_) => Err(NoMemory),
+    }
+}
+
 /// The text with places for its labels and with what it leaves out, in its own order; none if it isn't filled. Levels and needs are 0.
 pub(crate) fn filled_text(t: &LabelledText) -> Result<Option<String>, NoMemory> {
     let table = match document(t.alloc, t.bytes) {

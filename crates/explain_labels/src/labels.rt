@@ -24,7 +24,7 @@ fn write_unknown(t: &LabelledText, reference: &Reference, what: &mut Line) -> Li
     let mut more = Line::new(t.alloc);
     match reference.object {
         Some(object) if !names_object(t, object) => {
-            what.text(", and the plan names no object ").text(object);
+            what.text(", and the plan names no object ").word(object);
             more.text("it names: ");
             add_files(t.plan.objects.as_slice(), &mut more);
             return more;
@@ -92,7 +92,7 @@ pub(crate) fn label_said(
         return Ok(Said::with_page(what, "docs/LABELS.md, \"What is answered\""));
     }
     write_key(t, path, &mut what)?;
-    what.text(" is \"").text(label).text("\"");
+    what.text(" is \"").word(label).text("\"");
     let more = write_wrong(t, fault, label, &mut what);
     let mut said = Said::with_page(what, PAGE);
     said.add(more);

@@ -37,9 +37,9 @@ fn add_listed(count: usize, object: &str, name: &str, line: &mut Line) -> bool {
         line.text(", ..");
         return false;
     }
-    line.text(if count == 0 { "" } else { ", " }).text(object);
+    line.text(if count == 0 { "" } else { ", " }).word(object);
     line.text(if object.is_empty() { "" } else { ":" })
-        .text(name);
+        .word(name);
     true
 }
 

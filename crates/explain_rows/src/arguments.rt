@@ -130,9 +130,8 @@ fn with_parameters(callee: Callee, what: Line) -> Said {
     }
 }
 
-/// What is said of `arguments`.
-pub(crate) fn said_of_arguments(scene: &Scene) -> Option<Said> {
-    let callee = callee_of(scene)?;
+// The first parameter that isn't met, with what is passed for it; none where each is.
+fn unmet_line(scene: &Scene, callee: Callee) -> Option<Line> {
     let (number, p) = unmet(scene, callee)?;
     let mut what = Line::of(scene.alloc, "argument ");
     what.count(number).text(" is ");
@@ -143,7 +142,28 @@ pub(crate) fn said_of_arguments(scene: &Scene) -> Option<Said> {
     what.text(", and ").text(kind_text(p.kind)).text(" ");
     write_takes(scene, callee, p.takes, &mut what);
     what.text(" is wanted");
+    Some(what)
+}
+
+/// What is said of `arguments`.
+pub(crate) fn said_of_arguments(scene: &Scene) -> Option<Said> {
+    let callee = callee_of(scene)?;
+    let what = unmet_line(scene, callee)?;
     Some(with_parameters(callee, what))
+}
+
+/// Whether a signature, by its number, takes what lies on the stack before a native call, and else why not.
+pub fn candidate_line(scene: &Scene, number: usize) -> Line {
+    let mut line = Line::new(scene.alloc);
+    if let Some(signature) = scene.notes.signature.as_slice().get(number) {
+        line.text(signature.name.as_str());
+        let number = u32::try_from(number).unwrap_or(u32::MAX);
+        match unmet_line(scene, Callee::Method(number, signature)) {
+            Some(unmet) => line.text(": ").line(&unmet),
+            None => line.text(" takes what lies on the stack"),
+        };
+    }
+    line
 }
 
 /// What is said of `unwritten`, where an argument lends a local field to be read.

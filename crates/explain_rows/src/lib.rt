@@ -24,5 +24,6 @@ mod sums;
 mod thunks;
 mod values;
 
+pub use arguments::candidate_line;
 pub use loss::loss_line;
 pub use row::row_said;

@@ -6,7 +6,7 @@ use crate::fields::{above_stack, fields_near};
 use crate::operands::{Memory, left_memory, right_memory};
 use crate::values::register_line;
 use explain_base::{Line, Said, Scene, access_text, accesses_of, kind_text};
-use note_types::{RuleName, Shape, Ty};
+use note_types::{RuleName, Shape, SlotKind, Ty};
 use rules_base::{Distance, Place, load_at, local_fields, place_at, target_at};
 
 // Whether an operand in memory fails by a rule.
@@ -66,15 +66,37 @@ fn place_of(scene: &Scene, m: Memory) -> Option<Place> {
 fn beside_stack(scene: &Scene, m: Memory) -> Said {
     let mut what = Line::of(scene.alloc, "no local field or parameter begins at R0 and ");
     what.distance(m.distance);
-    let mut lies = Line::of(scene.alloc, "above R0 lie: ");
-    lies.line(&above_stack(scene));
+    let mut lies = Line::new(scene.alloc);
+    lies.list(
+        "above R0 lie: ",
+        &above_stack(scene),
+        "above R0 lie no items and no parameters",
+    );
     let mut said = Said::only(what);
     said.add(lies);
     said
 }
 
-// A pointer into a shape, by its number, whose fields begin elsewhere than at a distance from the instance.
-fn beside_field(scene: &Scene, m: Memory, number: u32, s: &Shape, d: Distance) -> Said {
+// Where a distance leads out of the first of so many instances; empty where it doesn't.
+fn past_line(scene: &Scene, s: &Shape, count: u64, d: Distance) -> Line {
+    let mut line = Line::new(scene.alloc);
+    let bytes = d.n.saturating_mul(8).saturating_add(d.c);
+    if bytes < i64::from(s.n) * 8 + i64::from(s.c) {
+        return line;
+    }
+    line.text(s.name.as_str())
+        .text(" has size ")
+        .pair(u64::from(s.n), u64::from(s.c));
+    line.text(if count > 1 {
+        ", and an operand reaches the first instance alone; a number times the size, added to the pointer, leads to another"
+    } else {
+        ", and the pointer leads to one instance"
+    });
+    line
+}
+
+// A pointer to so many instances of a shape, by its number, whose fields begin elsewhere than at a distance from the instance.
+fn beside_field(scene: &Scene, m: Memory, number: u32, s: &Shape, count: u64, d: Distance) -> Said {
     let name = s.name.as_str();
     let mut what = register_line(scene, m.reg, scene.state.regs[m.reg as usize]);
     what.text(", and ")
@@ -82,9 +104,8 @@ fn beside_field(scene: &Scene, m: Memory, number: u32, s: &Shape, d: Distance) -
         .text(" has no field that begins at ")
         .distance(d);
     let mut fields = Line::of(scene.alloc, name);
-    fields
-        .text(" has, nearest first: ")
-        .line(&fields_near(scene, s.fields.as_slice(), d));
+    let near = fields_near(scene, s.fields.as_slice(), d);
+    fields.list(" has, nearest first: ", &near, " has no fields");
     let mut said = Said::with_key(
         what,
         "shape",
@@ -93,6 +114,7 @@ fn beside_field(scene: &Scene, m: Memory, number: u32, s: &Shape, d: Distance) -
         "the shape's fields",
     );
     said.add(fields);
+    said.add(past_line(scene, s, count, d));
     said
 }
 
@@ -101,13 +123,20 @@ fn nowhere(scene: &Scene, m: Memory) -> Said {
         return beside_stack(scene, m);
     }
     let t = scene.state.regs[m.reg as usize];
-    if let Ty::Ptr { shape, n, c, .. } = t {
+    if let Ty::Ptr {
+        shape,
+        count,
+        n,
+        c,
+        ..
+    } = t
+    {
         if let Some(s) = scene.notes.shape.as_slice().get(shape as usize) {
             let d = Distance {
                 n: m.distance.n.saturating_add(i64::from(n)),
                 c: m.distance.c.saturating_add(i64::from(c)),
             };
-            return beside_field(scene, m, shape, s, d);
+            return beside_field(scene, m, shape, s, count, d);
         }
     }
     let mut what = register_line(scene, m.reg, t);
@@ -124,6 +153,16 @@ fn nowhere(scene: &Scene, m: Memory) -> Said {
 }
 
 // ---- cells that are accessed otherwise than they may be
+
+// By which moves a parameter is loaded.
+fn loads_of(kind: SlotKind, ty: Ty) -> &'static str {
+    match (kind, ty) {
+        (SlotKind::N, Ty::Status(_)) => "MOVn, and by MOVsn too",
+        (SlotKind::N, _) => "MOVn",
+        (_, Ty::Status(_)) => "MOVq, and by MOVsn too",
+        _ => "MOVq",
+    }
+}
 
 // Writes how a place is accessed, and how it may be.
 fn write_access(scene: &Scene, m: Memory, place: Place, line: &mut Line) {
@@ -153,10 +192,12 @@ fn write_access(scene: &Scene, m: Memory, place: Place, line: &mut Line) {
         " is loaded by "
     })
     .text(access)
+    .text("; it is loaded by ")
     .text(match place {
-        Place::ThunkCell(_) => "; it is loaded by MOVn, and never stored to",
-        _ => "; it is loaded by MOVn where it is n and by MOVq where it is q, and never stored to",
-    });
+        Place::Parameter { kind, ty } => loads_of(kind, ty),
+        _ => "MOVn",
+    })
+    .text(", and never stored to");
 }
 
 /// What is said of `address`.

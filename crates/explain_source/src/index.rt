@@ -36,7 +36,7 @@ fn index_line(alloc: Global, found: &str, bits: u8) -> Line {
     }
     if found.starts_with('#') {
         let mut what = Line::of(alloc, "`");
-        what.text(found).text(
+        what.word(found).text(
             "` has tag 7, which an index of 16 bits has no room for; wanted: a tag from 0 to 6, \
              which is in the bits 12 to 14",
         );
@@ -46,7 +46,7 @@ fn index_line(alloc: Global, found: &str, bits: u8) -> Line {
     let mut what = Line::of(alloc, "no index of ");
     what.number(u64::from(bits))
         .text(" bits has room for `")
-        .text(found)
+        .word(found)
         .text("`; its two numbers share ")
         .number(u64::from(room));
     what.text(" bits, of which the natural units have 0, ")

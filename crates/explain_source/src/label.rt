@@ -16,7 +16,7 @@ fn label_line(alloc: Global, label: &str) -> Line {
         );
     }
     let mut what = Line::of(alloc, "`");
-    what.text(label).text(
+    what.word(label).text(
         "` is no label; a name is 1 to 63 letters, digits, _ and ., with no digit in front, \
          and no space before its colon",
     );
@@ -29,7 +29,7 @@ fn name_line(alloc: Global, name: &str) -> Line {
     if is_name(name.as_bytes()) {
         what.text("no line has the label ").text(name);
     } else {
-        what.text("`").text(name).text(
+        what.text("`").word(name).text(
             "` is no name; a name is 1 to 63 letters, digits, _ and ., with no digit in front",
         );
     }

@@ -31,14 +31,14 @@ fn number_line(alloc: Global, word: &str, number: Part) -> Line {
     let found = number.shown();
     let mut what = Line::new(alloc);
     if number.text.contains(&b'(') {
-        what.text("the numbers of the index in `").text(found).text(
+        what.text("the numbers of the index in `").word(found).text(
             "`; wanted: decimal digits without a 0 in front, \
              or 0x and hexadecimal digits, below 18446744073709551616",
         );
         return what;
     }
     what.text("`")
-        .text(found)
+        .word(found)
         .text("` is no number of ")
         .text(word)
         .text("; wanted: ");
@@ -52,7 +52,7 @@ fn number_line(alloc: Global, word: &str, number: Part) -> Line {
 // What is said of what stands for a count of zeros.
 fn zeros_found(alloc: Global, count: Part) -> Found {
     let mut what = Line::of(alloc, "`");
-    what.text(count.shown()).text(
+    what.word(count.shown()).text(
         "` is no count of zeros; wanted: decimal digits without a sign and without a 0 in front, \
          or 0x and hexadecimal digits",
     );

@@ -114,11 +114,11 @@ fn operands_line(alloc: Global, word: &str, operands: &str) -> Line {
         what.text("no operands after ").text(word);
     } else if operands.starts_with("R0 ") {
         what.text("`")
-            .text(operands)
+            .word(operands)
             .text("`: R0 has no number beside it here");
     } else {
         what.text("`")
-            .text(operands)
+            .word(operands)
             .text("` are no operands of ")
             .text(word);
     }

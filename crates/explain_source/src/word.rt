@@ -23,7 +23,7 @@ fn wanted(word: &str, is_alone: bool) -> &'static str {
 // What is said of a word: the mnemonics that begin with its letters, or else how they are written.
 fn word_line(alloc: Global, word: &str, is_alone: bool) -> Line {
     let mut what = Line::of(alloc, "`");
-    what.text(word).text("` is no ");
+    what.word(word).text("` is no ");
     let mut forms = Line::new(alloc);
     if !write_forms(word, &mut forms) {
         what.text(wanted(word, is_alone));

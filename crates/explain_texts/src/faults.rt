@@ -1,6 +1,7 @@
 //! What is said of the first fault of a text in TOML.
 
 use crate::faulty::{Faulty, TomlText, said_at, table_and_key, value_at};
+use crate::fields::write_separator;
 use crate::forms::{Form, KeyForm};
 use crate::names::name_said;
 use crate::ranges::range_said;
@@ -45,12 +46,23 @@ pub fn toml_said(
     Ok(said)
 }
 
+// What is said beside the parser's words of a header that stands there again.
+fn header_text(bytes: &[u8], at: usize, words: &str) -> &'static str {
+    match bytes.get(at..) {
+        Some([b'[', ..]) if words == "duplicate key" =>
+            "; the tables of a list stand each under a header in double brackets, as [[static]], and one in single brackets stands once",
+        _ => "",
+    }
+}
+
 // What is said of a text that is no TOML.
 fn torn_said(alloc: Global, kind: TomlText, bytes: &[u8]) -> Said {
     let mut what = Line::of(alloc, "this is no TOML");
     let mut at = 0;
     if let Some((offset, error)) = first_fault(alloc, bytes) {
-        what.text(": ").text(error.message());
+        what.text(": ")
+            .text(error.message())
+            .text(header_text(bytes, offset, error.message()));
         at = offset;
     }
     said_at(bytes, at, what, kind.pages().0)
@@ -85,7 +97,7 @@ fn unfound_said(f: &Faulty, what: Line, word: &str, path: &str) -> Said {
     }
 }
 
-// Writes the keys of the table at a path that are none, with commas.
+// Writes the keys of the table at a path that don't belong there, with commas.
 fn write_unknown(f: &Faulty, path: &str, line: &mut Line) {
     let found = match value_at(f.table, path) {
         _ if path.is_empty() => Some(f.table),
@@ -95,19 +107,17 @@ fn write_unknown(f: &Faulty, path: &str, line: &mut Line) {
     let Some(table) = found else {
         return;
     };
+    let mut count = 0usize;
     for (key, _) in table.iter() {
         let mut inner = Line::of(f.alloc, path);
         inner
             .text(if path.is_empty() { "" } else { "." })
             .text(key.as_str());
         if f.kind.form_at(inner.as_str()).is_none() {
-            line.text(if line.is_empty() {
-                "keys there that are none: "
-            } else {
-                ", "
-            })
-            .text(key.as_str())
-            .kept(!inner.is_short());
+            if write_separator(count, line.kept(!inner.is_short())) {
+                line.word(key.as_str());
+            }
+            count = count.saturating_add(1);
         }
     }
 }
@@ -134,8 +144,9 @@ fn missing_said(f: &Faulty, path: &str) -> Said {
         Some(span) => span.key,
         None => 0,
     };
-    let mut more = Line::new(f.alloc);
-    write_unknown(f, table, &mut more);
+    let (mut keys, mut more) = (Line::new(f.alloc), Line::new(f.alloc));
+    write_unknown(f, table, &mut keys);
+    more.list("keys that don't belong there: ", &keys, "");
     let mut said = f.said(offset, what);
     said.add(more);
     said.add(Line::of(f.alloc, completed_text(f.kind, path)));
@@ -184,16 +195,19 @@ fn write_kind(f: &Faulty, path: &str, form: KeyForm, line: &mut Line) {
             line.text("item ")
                 .count(number)
                 .text(" of ")
-                .text(path)
+                .word(path)
                 .text(" is ")
                 .text(kind_word(item));
         }
         None => {
-            line.text(path).text(" is ").text(found);
+            line.word(path).text(" is ").text(found);
         }
     }
     line.text("; wanted: ")
         .text(if is_table { "a table" } else { form.wanted });
+    if let (Form::Tables, Some(Value::Table(_))) = (form.form, value) {
+        line.text(", each under [[").word(path).text("]]");
+    }
 }
 
 fn kind_said(f: &Faulty, path: &str) -> Said {
@@ -207,7 +221,7 @@ fn kind_said(f: &Faulty, path: &str) -> Said {
     };
     match f.kind.form_at(path) {
         None => {
-            what.text(path).text(" is no key of this table");
+            what.word(path).text(" is no key of this table");
         }
         Some(_) if path == "notify" && version == Some(1) => {
             what.text(path)

@@ -132,7 +132,7 @@ impl<'a> Faulty<'a> {
 
     /// What is said where nothing is found at a path: the fault's word and the path.
     pub fn plain_said(&self, mut what: Line, word: &str, path: &str) -> Said {
-        what.text(word).text(" at ").text(path);
+        what.text(word).text(" at ").word(path);
         Said::with_page(what, self.kind.pages().0)
     }
 
@@ -223,7 +223,7 @@ impl<'a> Found<'a> {
             Some(span) => *span,
             None => (self.span.from, self.span.to),
         };
-        line.text(self.path).text(" is ").text(f.part(from, to));
+        line.word(self.path).text(" is ").value(f.part(from, to));
         from
     }
 

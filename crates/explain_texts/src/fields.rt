@@ -44,8 +44,13 @@ pub(crate) fn field_named<'n>(shape: &'n Shape, name: &Name) -> Option<&'n Field
 
 // Writes the fields that a shape has.
 fn write_shape(shape: &Shape, line: &mut Line) {
-    line.text(shape.name.as_str()).text(" has: ");
-    for (number, field) in shape.fields.as_slice().iter().enumerate() {
+    let fields = shape.fields.as_slice();
+    line.text(shape.name.as_str()).text(if fields.is_empty() {
+        " has no fields"
+    } else {
+        " has: "
+    });
+    for (number, field) in fields.iter().enumerate() {
         if write_separator(number, line) {
             line.text(field.name.as_str());
         }
@@ -65,26 +70,80 @@ fn write_objects(notes: &Notes, made: &[TypedObject], line: &mut Line) {
     }
 }
 
-// An item that names a field that isn't there: what is wrong with it, and lines of what there is.
+/// An item that names a field that isn't there: what is wrong with it, and lines of what there is.
 #[derive(Drop)]
-struct Wrong {
+pub(crate) struct Wrong {
     what: Line,
     fields: Line,
     objects: Line,
 }
 
 impl Wrong {
-    fn new(alloc: Global) -> Wrong {
+    /// Nothing is wrong so far.
+    pub fn new(alloc: Global) -> Wrong {
         Wrong {
             what: Line::new(alloc),
             fields: Line::new(alloc),
             objects: Line::new(alloc),
         }
     }
+
+    /// What is said of the key alone.
+    pub fn plain_said(self, f: &Faulty, at: &Found) -> Said {
+        f.plain_said(self.what, "name", at.path)
+    }
+
+    /// What is said of the item of that number.
+    pub fn item_said(self, f: &Faulty, at: &Found, number: usize) -> Said {
+        let mut what = Line::new(f.alloc);
+        let offset = at.write_item(f, number, &mut what);
+        what.line(&self.what);
+        let mut said = f.said(offset, what);
+        said.add(self.fields);
+        said.add(self.objects);
+        said
+    }
+}
+
+/// Where the fields that the items of a list name are sought: nowhere, in the shape of its table, or in those of typed objects.
+#[derive(Drop)]
+pub(crate) enum Sought<'n> {
+    Nowhere,
+    Shape(&'n Shape),
+    Objects(&'n Notes, Vec<TypedObject>),
+}
+
+// The objects of a script in which the fields of its `write` lists are sought. The line remembers want of memory.
+fn written_objects<'n>(f: &Faulty, notes: &'n Notes, line: &mut Line) -> Sought<'n> {
+    match read_draft(f.alloc, f.table) {
+        Ok(draft) => Sought::Objects(notes, drafted_objects(notes, &draft, true, line)),
+        Err(_) => {
+            line.kept(false);
+            Sought::Nowhere
+        }
+    }
+}
+
+// The shape of the table in which a key of a script stands, in which the fields of its cells are sought.
+fn table_shape<'n>(f: &Faulty, notes: &'n Notes, path: &str) -> Sought<'n> {
+    let number = shape_at(f, path).unwrap_or(usize::MAX);
+    match notes.shape.as_slice().get(number) {
+        Some(shape) => Sought::Shape(shape),
+        None => Sought::Nowhere,
+    }
+}
+
+/// Where the fields that the items of a list name are sought. What is wrong so far remembers want of memory.
+pub(crate) fn sought_in<'a>(f: &Faulty<'a>, at: &Found, wrong: &mut Wrong) -> Sought<'a> {
+    match (f.kind, at.form.form) {
+        (TomlText::Script(notes), Form::CellValue) => table_shape(f, notes, at.path),
+        (TomlText::Script(notes), Form::Write) => written_objects(f, notes, &mut wrong.what),
+        _ => Sought::Nowhere,
+    }
 }
 
 // Whether a text gives a cell of a field that a shape doesn't have, and what is wrong then.
-fn lacks_field(shape: &Shape, text: &str, wrong: &mut Wrong) -> bool {
+fn lacks_cell(shape: &Shape, text: &str, wrong: &mut Wrong) -> bool {
     match read::<CellValueText>(text, &mut wrong.what) {
         Some(cell) if field_named(shape, &cell.field).is_none() => {
             wrong
@@ -97,17 +156,6 @@ fn lacks_field(shape: &Shape, text: &str, wrong: &mut Wrong) -> bool {
         }
         _ => false,
     }
-}
-
-// The first item of a list of cells whose field the shape of its table doesn't have, and what is wrong with it.
-fn unknown_cell(f: &Faulty, notes: &Notes, at: &Found, wrong: &mut Wrong) -> Option<usize> {
-    let shape = notes.shape.as_slice().get(shape_at(f, at.path)?)?;
-    for item in 0..at.count() {
-        if lacks_field(shape, at.item(item).unwrap_or(""), wrong) {
-            return Some(item);
-        }
-    }
-    None
 }
 
 // The shape of the object that a text of `write` names, if it doesn't have the field.
@@ -142,50 +190,13 @@ fn lacks_written(notes: &Notes, made: &[TypedObject], text: &str, wrong: &mut Wr
     true
 }
 
-// The first item of `write` whose field the shape of its object doesn't have, and what is wrong with it.
-fn unknown_written(f: &Faulty, notes: &Notes, at: &Found, wrong: &mut Wrong) -> Option<usize> {
-    let Ok(draft) = read_draft(f.alloc, f.table) else {
-        wrong.what.kept(false);
-        return None;
-    };
-    let made = drafted_objects(notes, &draft, true, &mut wrong.what);
-    for item in 0..at.count() {
-        if lacks_written(notes, made.as_slice(), at.item(item).unwrap_or(""), wrong) {
-            return Some(item);
+impl Sought<'_> {
+    /// Whether a text names a field that isn't there, and what is wrong then.
+    pub fn lacks_field(&self, text: &str, wrong: &mut Wrong) -> bool {
+        match self {
+            Sought::Nowhere => false,
+            Sought::Shape(shape) => lacks_cell(*shape, text, wrong),
+            Sought::Objects(notes, made) => lacks_written(*notes, made.as_slice(), text, wrong),
         }
     }
-    None
-}
-
-// The first item of a list that names a field that isn't there, and what is wrong with it.
-fn unknown_item(f: &Faulty, at: &Found, wrong: &mut Wrong) -> Option<usize> {
-    let TomlText::Script(notes) = f.kind else {
-        return None;
-    };
-    match at.form.form {
-        Form::CellValue => unknown_cell(f, notes, at, wrong),
-        Form::Write => unknown_written(f, notes, at, wrong),
-        _ => None,
-    }
-}
-
-/// What is said of the first item of a list of a script that names a field that isn't there, or else of the key alone.
-pub(crate) fn field_said(f: &Faulty, at: &Found) -> Said {
-    let mut wrong = Wrong::new(f.alloc);
-    let number = unknown_item(f, at, &mut wrong);
-    let Wrong {
-        what: wrong,
-        fields,
-        objects,
-    } = wrong;
-    let Some(number) = number else {
-        return f.plain_said(wrong, "name", at.path);
-    };
-    let mut what = Line::new(f.alloc);
-    let offset = at.write_item(f, number, &mut what);
-    what.line(&wrong);
-    let mut said = f.said(offset, what);
-    said.add(fields);
-    said.add(objects);
-    said
 }

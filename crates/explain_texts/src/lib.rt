@@ -15,7 +15,7 @@
 //! | Fault | Sentence |
 //! |---|---|
 //! | `NotToml` | what the parser says, where it stopped |
-//! | `Missing` | the table, the key and its form; the keys of that table that are none |
+//! | `Missing` | the table, the key and its form; the keys of that table that don't belong there |
 //! | any, at a key that is left out | the same |
 //! | `Kind` | the value's kind and the form; or that this is no key |
 //! | `Range` | the first item or the value that isn't of its form; else what the first condition wants that fails |

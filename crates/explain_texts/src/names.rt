@@ -1,7 +1,7 @@
 //! What is said of names that aren't there.
 
 use crate::faulty::{Faulty, Found, TomlText};
-use crate::fields::field_said;
+use crate::fields::{Wrong, sought_in};
 use crate::forms::{Form, Thing};
 use explain_base::{Line, Said};
 
@@ -64,8 +64,9 @@ fn item_said(f: &Faulty, at: &Found, number: usize, thing: Thing, name: &str) ->
         .text(" ")
         .text(name)
         .text(" that the notes don't have");
-    let mut more = Line::of(f.alloc, "they have: ");
-    write_names(f, thing, &mut more);
+    let (mut names, mut more) = (Line::new(f.alloc), Line::new(f.alloc));
+    write_names(f, thing, &mut names);
+    more.list("they have: ", &names, "they have none");
     let mut said = f.said(offset, what);
     said.add(more);
     said
@@ -83,7 +84,7 @@ fn thing_said(f: &Faulty, at: &Found, thing: Thing) -> Said {
     what.text(", which names a ")
         .text(thing.word())
         .text(" that ")
-        .text(owner);
+        .word(owner);
     what.text(" ").text(verb).text(" have");
     let mut more = Line::of(f.alloc, whose);
     if f.name(thing, 0).is_some() {
@@ -114,20 +115,25 @@ fn write_other_names(f: &Faulty, thing: Thing, line: &mut Line) {
         Thing::Method => provider.file,
         _ => consumer.file,
     };
-    line.text("; ").text(file).text(" has: ");
+    line.text("; ").word(file).text(" has: ");
     write_names(&turned, thing, line);
 }
 
-/// What is said of a name that isn't there.
+/// What is said of the first name that isn't there. A field stands before what its cell holds.
 pub(crate) fn name_said(f: &Faulty, at: &Found) -> Said {
     if let Form::NameOf(thing) = at.form.form {
         return thing_said(f, at, thing);
     }
+    let mut wrong = Wrong::new(f.alloc);
+    let sought = sought_in(f, at, &mut wrong);
     for number in 0..at.count() {
         let text = at.item(number).unwrap_or("");
+        if sought.lacks_field(text, &mut wrong) {
+            return wrong.item_said(f, at, number);
+        }
         if let Some((thing, name)) = unknown_name(f, at.form.form, text) {
             return item_said(f, at, number, thing, name);
         }
     }
-    field_said(f, at)
+    wrong.plain_said(f, at)
 }

@@ -51,7 +51,7 @@ fn whole_said(f: &Faulty, at: &Found, counts: bool, mut what: Line) -> Said {
         what.text(" has ").count(at.count()).text(" items");
         at.span.key
     } else {
-        what.text(" is ").text(f.part(at.span.from, at.span.to));
+        what.text(" is ").value(f.part(at.span.from, at.span.to));
         at.span.from
     };
     what.text("; wanted: ").text(at.form.wanted);

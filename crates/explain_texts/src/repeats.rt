@@ -71,7 +71,7 @@ fn write_earlier(f: &Faulty, at: &Found, note: &mut Line) {
 // What is said of an item that repeats another.
 fn item_said(f: &Faulty, at: &Found, number: usize, other: usize) -> Said {
     let mut what = Line::new(f.alloc);
-    what.text(only_once(at.form.form, at.item(number).unwrap_or("")));
+    what.word(only_once(at.form.form, at.item(number).unwrap_or("")));
     what.text(" again, in item ")
         .count(number)
         .text(" of ")

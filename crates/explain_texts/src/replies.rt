@@ -161,16 +161,17 @@ impl Reply<'_> {
     }
 }
 
-/// What of the reply of a script's call doesn't fit; it writes why. `None` where there is no such call.
+/// What of the reply of a script's call doesn't fit, once so many calls were accepted; it writes why. `None` where there is no such call.
 pub(crate) fn unfit_reply(
     notes: &Notes,
     script: &Script,
     entry: usize,
+    accepted: usize,
     line: &mut Line,
 ) -> Option<Unfit> {
     let call = script.call.as_slice().get(entry)?;
     let signature = notes.signature.as_slice().get(call.signature as usize)?;
-    let made = made_objects(notes, script, entry.saturating_add(1), line);
+    let made = made_objects(notes, script, accepted, line);
     let reply = Reply {
         notes,
         made: made.as_slice(),

@@ -38,7 +38,7 @@ pub(crate) struct Ended<'a> {
     pub place: Option<u32>,
     /// The last call of the program, if it made one.
     pub last: Option<&'a Event>,
-    /// How many calls of the script it came to.
+    /// How many calls of the script it came to, those among them that came within a callback of another.
     pub calls: usize,
     /// Whether a function of another image answers the last call.
     pub bound: bool,
@@ -191,7 +191,7 @@ impl Amiss<'_> {
         } else {
             line.text("item ").count(item).text(" of ").text(list);
         }
-        line.text(" is ").text(part);
+        line.text(" is ").value(part);
         Subject::Offset(offset)
     }
 
@@ -207,7 +207,13 @@ impl Amiss<'_> {
             .count(call)
             .text("] doesn't fit: ");
         let mut wrong = Line::new(self.f.alloc);
-        let subject = match unfit_reply(self.notes, self.script, call, &mut wrong) {
+        let subject = match unfit_reply(
+            self.notes,
+            self.script,
+            call,
+            self.ended.calls,
+            &mut wrong,
+        ) {
             Some(Unfit::Item(list, item)) => self.unfit_item(call, list, item, line),
             Some(Unfit::Call) => self.at_item("call", call, "", line),
             None => {
@@ -226,14 +232,14 @@ impl Amiss<'_> {
                 line.text(" of call[")
                     .count(call)
                     .text("], ")
-                    .text(part)
+                    .value(part)
                     .text(",");
                 Subject::Offset(offset)
             }
             None => self.last_call(line),
         };
         line.text(" can't be entered: ");
-        let made = made_objects(self.notes, self.script, call.saturating_add(1), line);
+        let made = made_objects(self.notes, self.script, self.ended.calls, line);
         if let Some(call) = self.script.call.as_slice().get(call) {
             if let Some(callback) = call.enter.as_slice().get(number) {
                 let values = callback.values.as_slice();

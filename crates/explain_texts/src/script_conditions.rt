@@ -212,21 +212,28 @@ fn cells_wrong(
     Some(Subject::Whole)
 }
 
-// The object that a text of `write` names, if it or its instance isn't there. The line remembers want of memory.
-fn absent_object(made: &[TypedObject], text: &str, line: &mut Line) -> Option<u64> {
-    let write = read::<WriteText>(text, line)?;
+// Whether the object that a text of `write` names or its instance isn't there; it writes which.
+fn is_absent(notes: &Notes, made: &[TypedObject], text: &str, line: &mut Line) -> bool {
+    let Some(write) = read::<WriteText>(text, line) else {
+        return false;
+    };
     match made.get(write.object as usize) {
-        Some(object) if write.instance < object.count => None,
-        _ => Some(write.object),
+        Some(object) if write.instance < object.count => return false,
+        _ => {}
     }
+    if write_object(notes, made, write.object, line) {
+        line.text(", and there is no instance ")
+            .number(write.instance)
+            .text(", counted from 0");
+    }
+    true
 }
 
 // The first text of `write` whose object or instance isn't there.
 fn write_wrong(notes: &Notes, draft: &ScriptDraft, at: &Found, line: &mut Line) -> Option<Subject> {
     let made = drafted_objects(notes, draft, true, line);
     for item in 0..at.count() {
-        if let Some(object) = absent_object(made.as_slice(), at.item(item).unwrap_or(""), line) {
-            write_object(notes, made.as_slice(), object, line);
+        if is_absent(notes, made.as_slice(), at.item(item).unwrap_or(""), line) {
             return Some(Subject::Item(item));
         }
     }
