@@ -5,7 +5,7 @@ set -u
 here=$(CDPATH='' cd -- "$(dirname -- "${BASH_SOURCE[0]}")" >/dev/null && pwd -P)
 failed=0
 printf '| Work | Size | µs | Peer | µs | Ratio | Growth |\n|---|---|---|---|---|---|---|\n'
-for name in check statics infer notes explain text list link images run machine; do
+for name in check statics infer notes explain text list link images run programs machine edk2; do
   ROWS_ALONE=1 "$here/$name.sh" || failed=1
 done
 exit "$failed"

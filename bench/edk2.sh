@@ -4,13 +4,13 @@
 #
 #     EDK2=FOLDER bench/edk2.sh
 #
-# FOLDER has Debian's sources of the package edk2, as `apt-get source edk2` unpacks them; nothing in it is changed.
+# FOLDER has Debian's sources of the package edk2 (scripts/interpreter.sh).
 # shellcheck source=bench/lib.sh
 . "$(dirname -- "${BASH_SOURCE[0]}")/lib.sh"
 need python3 gcc
-dxe=${EDK2:-/nowhere}/MdeModulePkg/Universal/EbcDxe base=${EDK2:-}/MdePkg/Library/BaseLib
-[ -f "$dxe/EbcExecute.c" ] || die "EDK2 names no folder of Debian's sources of edk2: '${EDK2:-}'"
-echo 'int main(void) { return 0; }' | gcc -m32 -x c - -o small 2>/dev/null || die "gcc builds nothing for 32 bits: install Debian's package gcc-multilib"
+# shellcheck source=scripts/interpreter.sh
+. "$top/scripts/interpreter.sh"
+has_interpreter || exit 1
 machine=$(program machine_bench)
 
 # What firmware has and a program of Linux hasn't, and the loop: as many rounds as the word says.
@@ -49,21 +49,9 @@ int main (int count, char **words) {
   return 0;
 }
 .
-: >AutoGen.h
-
-# Builds it for an architecture of EDK2, with these flags beside those that both have.
-build_loop() {
-  local folder=$1 sources=("$dxe/EbcExecute.c" "$dxe/EbcDebuggerHook.c" loop.c "$base/Math64.c" "$base/$1/GccInline.c") name
-  shift
-  for name in ARShiftU64 LShiftU64 RShiftU64 MultU64x64 MultS64x64 DivU64x64Remainder DivS64x64Remainder Unaligned; do sources+=("$base/$name.c"); done
-  gcc -Os -flto -w -fshort-wchar -fno-builtin -fno-strict-aliasing -fno-common -ffunction-sections -fdata-sections -fno-stack-protector \
-    -fno-asynchronous-unwind-tables -include AutoGen.h "$@" -I. -I"$dxe" -I"$EDK2/MdePkg/Include" -I"$EDK2/MdePkg/Include/$folder" \
-    -I"$EDK2/MdeModulePkg/Include" -I"$base" -DMDEPKG_NDEBUG "${sources[@]}" -Wl,--gc-sections -o "edk2.$folder" >said 2>&1 ||
-    { cat said >&2; die "EDK2's interpreter can't be built for $folder"; }
-}
-build_loop Ia32 -m32 -march=i586 -malign-double -freorder-blocks -mno-stack-arg-probe -D EFI32 -fno-pic -fno-pie -no-pie
-build_loop X64 -m64 -march=x86-64 '-DEFIAPI=__attribute__((ms_abi))' -maccumulate-outgoing-args -mno-red-zone -mcmodel=small -fpie -pie -mno-stack-arg-probe \
-  -DUSING_LTO
+for folder in Ia32 X64; do
+  build_interpreter "$folder" loop.c "edk2.$folder" || die "EDK2's interpreter can't be built for $folder"
+done
 
 inputs() { units=$1 ours=("$machine" "$width" "$1") peer=("$work/edk2.$folder" $(($1 / 6))); }
 right() { cmp -s <("${ours[@]}") <("${peer[@]}"); }

@@ -1,6 +1,7 @@
 #!/usr/bin/env bash
-# Runs each command on the largest input that it takes, of the kind that costs it most, and prints a table of the seconds of the processor. Ends
-# with status 1 if a command takes more than LIMIT seconds, 2 if left out, or if it isn't answered as it should be.
+# Runs each command on the largest input that it takes, of the kind that costs it most, and prints a table of the seconds of the processor and
+# of the memory that it takes at most. Ends with status 1 if a command takes more than LIMIT seconds, 2 if left out, or if it isn't answered as
+# it should be.
 # shellcheck source=bench/lib.sh
 . "$(dirname -- "${BASH_SOURCE[0]}")/lib.sh"
 need python3
@@ -77,28 +78,28 @@ write('images.rom', rom(False) * 32767 + rom(True))
 # A plan with an object of 16,384 jumps, and labels for them.
 write('chain.asm', ['.global main', 'main:'] + [f'l{k}: JMP8 l{k + 1}' for k in range(16384)] + ['l16384: RET'])
 write('chain.plan', ['objects = ["chain.obj"]', 'entry = "main"', 'subsystem = 11', 'base = 65536'])
-noted('chain.labels', ['[[function]]', 'name = "main"', 'result = "any"'])
+write('chain.labels', ['[[function]]', 'name = "main"', 'result = "any"'])
 PYTHON
 "$ebc" asm chain.asm chain.obj
 
-# The seconds of the processor that words take, with the status that they are to end with.
+# What words take, with the status that they are to end with.
 row() {
-  local took found name=$1 status=$2
+  local took most found name=$1 status=$2
   shift 2
-  read -r took found < <(python "$@" <<'PYTHON'
+  read -r took most found < <(python "$@" <<'PYTHON'
 import resource, subprocess, sys
 status = subprocess.run(sys.argv[1:], stdout=open('said', 'w'), stderr=subprocess.STDOUT, stdin=subprocess.DEVNULL).returncode
 used = resource.getrusage(resource.RUSAGE_CHILDREN)
-print(f'{used.ru_utime + used.ru_stime:.2f}', status)
+print(f'{used.ru_utime + used.ru_stime:.2f} {used.ru_maxrss / 1024:.0f}', status)
 PYTHON
   )
-  printf '| `%s %s` | %s | %s |\n' "${1##*/}" "$2" "$name" "$took"
+  printf '| `%s %s` | %s | %s | %s |\n' "${1##*/}" "$2" "$name" "$took" "$most"
   [ "$found" = "$status" ] || { echo "worst.sh: ${1##*/} ${*:2} ends with $found, not $status: $(head -c 200 said)" >&2; failed=1; }
   awk "BEGIN { exit !($took > $limit) }" && { echo "worst.sh: ${1##*/} ${*:2} takes more than $limit seconds" >&2; failed=1; }
   return 0
 }
 
-printf '| Command | Input | s |\n|---|---|---|\n'
+printf '| Command | Input | s | MB |\n|---|---|---|---|\n'
 row '1 MiB of jumps to labels' 0 "$ebc" asm jumps.asm jumps.obj
 row 'the same, with a fault in its last line' 3 "$ebc" asm wrong.asm wrong.obj
 row 'raw code of 256 KiB, with a fault at its end' 1 "$ebc" check code.bin
