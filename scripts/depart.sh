@@ -196,6 +196,8 @@ class Program:
         self.places, self.size, self.bytes = natural(self.cells)
         self.room_cells = [pick(['i8', 'i16', 'i32', 'i64', 'n', 'stat']) for _ in range(self.random.randint(2, 5))]
         self.room_places, self.room_size, self.room_bytes = natural(self.room_cells)
+        # (that a field is filled in one object and not in another one isn't warned of)
+        self.filled = [self.careful or self.random.random() < 0.8 for _ in self.room_cells]
         size = f'n size:{self.room_size[0]},{self.room_size[1]}'
         self.methods = [('AllocatePool', ['n int:0..15', size, 'n out:ptr:Room'], ('status', 0)), ('Register', ['n entry'], ('status', 0))]
         for k in range(self.random.randint(2, 4)):
@@ -336,7 +338,7 @@ class Program:
         self.say('CMPI64weq R7, 0')
         self.say(f'JMP8cc l{label}')
         for k, cell in enumerate(self.room_cells):
-            if self.careful or self.random.random() < 0.8:
+            if self.filled[k]:
                 self.say('MOVIqw R4, 17' if cell != 'stat' else 'MOVIqw R4, 0')
                 self.say(f'MOVnw R5, @R0{index(self.local(0))}')
                 self.store('R4', cell, 'R5', self.room_places[k])
