@@ -108,7 +108,8 @@ driver.notes:79:1: note: the static object, static[0].place = 0x2008
 .
 done <<'.'
 [1, 0]|["x 0 0 n"]|.dd 0, 7|D depends on the width, and the byte at 0x200c is 07, where 0 is wanted
-[1, 0]|["x 0 0 n"]|.dq cell|D depends on the width, and a relocation stands at 0x2008, where none is wanted
+[1, 0]|["x 0 0 n"]|.dq cell|D depends on the width, and a relocation stands at 0x2008, where none is wanted; .dq NAME fills a cell p64 or p64? alone
+[1, 0]|["x 0 0 ptr?:D"]|.dq cell|D depends on the width, and a relocation stands at 0x2008, where none is wanted; .dq NAME fills a cell p64 or p64? alone
 [1, 0]|["m 0 0 method:Locate"]|.dq 0|D has the method cell m, which an image can't hold
 [1, 0]|["b 0 0 ptr:Blk"]|.dq 0|D depends on the width, and its field b may not be null, which an image can't hold
 [0, 8]|["q 0 0 p64?:D"]|.dq 7|the p64 cell q at 0x2008 isn't 0 and has no relocation; an address in data is made by .dq NAME
@@ -295,6 +296,19 @@ done <<'.'
 ["n int:0..9"]|PUSHn|n|argument 0 is n any, and n int:0..9 is wanted
 ["n any", "n handle"]|PUSHn|n|argument 1 is not there, and n handle is wanted
 ["q lent:i32"]|PUSH64|q|argument 0 is q any, and q lent:i32 is wanted
+.
+leaf 12 '[0, 32]' '' '[0, 8]' '["q any"]' 'PUSH64 R4' 'CALL32 leaf' 'MOVqw R0, R0(+0,+8)'
+edit driver.asm $'leaf:\n' $'leaf:\n  PUSH64 @R0(+0,+16)\n'
+edit driver.notes 'end = 4184' 'end = 4188'
+made
+slip 'a parameter that is pushed' 1 'refused 00001056 address' check out.efi driver.notes <<'.'
+out.efi: leaf+0x0: error: address: a parameter q any is loaded by a 64-bit form; it is loaded by MOVq, and never stored to
+  0x1056 PUSH64 @R0(+0,+16)
+  regs
+  stack
+  written
+  made 1
+  see docs/RULES.md, "The verdict", address
 .
 leaf 14 '[2, 16]' L '[0, 0]' '["n lent:i32"]' 'MOVqw R0, R0(-1,-0)' 'MOVqw R5, R0' 'PUSHn R5' 'CALL32 leaf'
 in_state 'another cell lent' 104c 'CALL32 6' arguments 'argument 0 is n local:p, and n lent:i32 is wanted' 'R5 local:p' 'n local:p, locals' \

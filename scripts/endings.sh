@@ -77,10 +77,10 @@ makes_within() {
   printf '[[call]]\nsignature = "again"\nresult = "status ok 0"\n[[call.make]]\nshape = "Blk"\ncount = 1\n' >>driver.script
 }
 makes_within '"tick ptr 0 0", "tick ptr 2 0"]'
-of_made 'a callback with an object that a call within made' 64 'end 24 00001038 mismatch enter' \
+of_made 'a callback with an object that a call within made' 64 'end 29 00001038 mismatch enter' \
   'driver.script:28:26: note: at width 64 callback 1 of call[1], "tick ptr 2 0", can'\''t be entered: parameter 0 of tick is n ptr:Sys, and object 2 is a Blk'
 makes_within $'"tick ptr 0 0"]\nwrite = ["2 0 next int 5"]'
-of_made 'a write into an object that a call within made' 32 'end 24 00001038 mismatch reply' \
+of_made 'a write into an object that a call within made' 32 'end 29 00001038 mismatch reply' \
   'driver.script:29:10: note: at width 32 the reply of call[1] doesn'\''t fit: item 0 of write is "2 0 next int 5"; field next of Blk is ptr?:Blk'
 # The cell is at 0x2000 in the image, which comes after 16,464 bytes of the native area and nine times 32 of the stack, each with 16 more.
 edit driver.notes $'enter = true\n' ''

@@ -47,7 +47,7 @@ pub(crate) fn content_of_blank(
     what.text(" depends on the width, and ");
     if let Some(r) = reloc_in(image, range.from, range.to) {
         what.text("a relocation stands at ").at(r).text(
-            ", where none is wanted; the address that .dq makes stands in a cell p64 or p64? of a shape without natural units",
+            ", where none is wanted; .dq NAME fills a cell p64 or p64? alone",
         );
         return Some(what);
     }
