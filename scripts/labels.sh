@@ -542,7 +542,7 @@ said_left_out() {
   said 'two signatures of which none fits' own.plan n < <(
     echo 'n: 0x102a: error: site: Put is called here, at 0x102a, where the notes have no site; main has sites at: none'
     split '  0x102a CALL32EXa @R5|  a site is found where one signature alone of the method takes what lies on the stack; there are: put, other'
-    split '  put: argument 0 is n int:0..2147483647, and n handle is wanted|  other: argument 1 is not there, and n any is wanted'
+    split '  put: argument 0 is n int:1..2147483647, and n handle is wanted|  other: argument 1 is not there, and n any is wanted'
     see_refusal site)
   without site >n
   said 'no site beside a point' own.plan n < <(
