@@ -46,23 +46,31 @@ fn found_at<'f>(filled: &'f Filled, path: &str) -> Option<&'f Value> {
         .get(key)
 }
 
-// Writes a number, or a list of numbers.
-fn write_value(value: &Value, line: &mut Line) {
+// Writes a number, or a text in quotes.
+fn write_item(value: &Value, line: &mut Line) {
     match value {
         Value::Integer(number) => {
             line.signed(i128::from(*number));
         }
-        Value::Array(items) => {
-            for (number, item) in items.iter().enumerate() {
-                line.text(if number == 0 { "[" } else { ", " });
-                if let Value::Integer(number) = item {
-                    line.signed(i128::from(*number));
-                }
-            }
-            line.text("]");
+        Value::String(text) => {
+            line.text("\"").text(text.as_str()).text("\"");
         }
         _ => {}
     }
+}
+
+// Writes a number or a text, or a list of such.
+fn write_value(value: &Value, line: &mut Line) {
+    let Value::Array(items) = value else {
+        write_item(value, line);
+        return;
+    };
+    line.text("[");
+    for (number, item) in items.iter().enumerate() {
+        line.text(if number == 0 { "" } else { ", " });
+        write_item(item, line);
+    }
+    line.text("]");
 }
 
 // Writes what was found for the key of a path that a text leaves out.
