@@ -1,6 +1,7 @@
 //! The walk from a leader, or from a function's start, up to the next leader.
 
 ghost use Rattle.std.specs.Prelude.{◌≡◌, ◌+◌, ◌≤◌, ◌^◌, ℕ, IfSome, length};
+ghost use Rattle.ebc_insn.specs.Spelling.{WellFormed};
 ghost use Rattle.note_types.specs.Records.{IsNotes};
 ghost use Rattle.pe_image.specs.Images.{IsImage};
 ghost use Rattle.rules_image.specs.Images.{FunctionHolds};
@@ -31,7 +32,9 @@ impl<'a> Search<'a> {
         requires functions { (k : ℕ) → FunctionHolds self.now.image.now self.now.notes.now k }
         ensures small { IfSome result (λ code. code.f.now.place + length code.bytes.now ≤ 2 ^ 22) }
     {
-        let f = self.notes.function.as_slice().get(func as usize)?;
+        let Some(f) = self.notes.function.as_slice().get(func as usize) else {
+            return None;
+        };
         let bytes = code_of(self.image, f);
         Some(Code { func, f, bytes })
     }

@@ -25,6 +25,17 @@ pub(crate) struct Leader {
     growths: u32,
 }
 
+// The join of what came before, if anything did, and a state. One that clashes is left to the check.
+fn met(before: Option<State>, s: State) -> State {
+    let Some(had) = before else {
+        return s;
+    };
+    match join_states(&had, &s) {
+        Some(both) => both,
+        None => had,
+    }
+}
+
 impl Leader {
     /// A leader at a place to which nothing has come.
     pub fn new(alloc: Global, place: u32) -> Leader {
@@ -80,18 +91,11 @@ impl Leader {
         Ok(!self.holds(s))
     }
 
-    // What the ways gave last, joined. One that clashes with those before it is left to the check.
+    // What the ways gave last, joined.
     fn joined(&self) -> Option<State> {
         let mut joined = None;
         for way in self.ways.as_slice() {
-            let state = way.state.state();
-            joined = match joined {
-                None => Some(state),
-                Some(had) => match join_states(&had, &state) {
-                    Some(both) => Some(both),
-                    None => Some(had),
-                },
-            };
+            joined = Some(met(joined, way.state.state()));
         }
         joined
     }

@@ -102,6 +102,16 @@ fn join_statuses(a: &Ty, b: &Ty) -> Option<Ty> {
     }
 }
 
+// Two different types of which none is below the other, in this order.
+fn joined(a: &Ty, b: &Ty) -> Option<Ty> {
+    match (*a, *b) {
+        (Ty::Int { .. }, Ty::Int { .. }) => join_ints(a, b),
+        (Ty::Int { .. }, Ty::Ptr { .. }) => join_null(a, b),
+        (Ty::Ptr { .. }, Ty::Ptr { .. }) => join_pointers(a, b),
+        _ => join_statuses(a, b),
+    }
+}
+
 /// The least type that two types are below, by the first row that applies; a row on two different types holds in either
 /// order:
 ///
@@ -119,11 +129,8 @@ pub(crate) fn join_types(a: &Ty, b: &Ty) -> Ty {
     if ty_below(b, a) {
         return *a;
     }
-    join_ints(a, b)
-        .or(join_pointers(a, b))
-        .or(join_null(a, b))
-        .or(join_null(b, a))
-        .or(join_statuses(a, b))
-        .or(join_statuses(b, a))
-        .unwrap_or(Ty::Any)
+    match joined(a, b) {
+        Some(t) => t,
+        None => joined(b, a).unwrap_or(Ty::Any),
+    }
 }
