@@ -5,9 +5,10 @@ ghost use Rattle.label_places.specs.Sought.{place_by};
 ghost use Rattle.pe_image.specs.Images.{IsImage};
 ghost use Rattle.note_types.specs.Records.{IsNotes};
 ghost use Rattle.width_checker.specs.Typed.{Typed};
-ghost use Rattle.note_completion.specs.Causes.{FaultHasCause, LargeHasCause, RefusedHasCause};
+ghost use Rattle.note_completion.specs.Causes.{FailsUnder, FaultHasCause, LargeHasCause, RefusedHasCause};
 ghost use Rattle.note_completion.specs.Completions.{Completes, IsComplete, TellsFirstFlaw, label_faults};
-ghost use Rattle.note_completion.specs.Halts.{EndsByRule, EndsChecked, GoesOnOrHalts, IsCaused, IsChecked, IsDrafted, IsRefusal, first_label_fault, task_place};
+ghost use Rattle.note_completion.specs.Halts.{EndsByRule, EndsChecked, GoesOnOrHalts, IsCaused, IsChecked, IsDrafted, first_label_fault};
+ghost use Rattle.note_completion.specs.Halts.{task_place};
 
 use crate::completion::{Completion, Linked};
 use crate::depths::{Depths, no_more};
@@ -26,24 +27,28 @@ use width_checker::{Verdict, check};
 // How many bytes the notes may have that are printed.
 const MOST_BYTES: usize = 1_048_576;
 
-// That a rule fails at a place, in the state there under notes.
-fn refused_in(
-    alloc: Global,
-    image: &Image,
-    notes: &Notes,
-    place: u32,
-    rule: RuleName,
-) -> Result<Halt, NoMemory>
+// The lines of the state at a place under notes; none where there is none.
+fn state_there(alloc: Global, image: &Image, notes: &Notes, place: u32) -> Result<String, NoMemory>
     requires image { IsImage image.now }
     requires notes { IsNotes notes.now }
-    ensures { IfOk result (IsRefusal place rule) }
 {
-    let at = before(image, notes, place);
-    let state = match &at {
-        Some(at) => state_lines(alloc, notes, place, at.state.as_ref())?,
-        None => String::new(alloc),
-    };
-    Ok(Halt::Refused { place, rule, state })
+    match before(image, notes, place) {
+        Some(at) => state_lines(alloc, notes, place, at.state.as_ref()),
+        None => Ok(String::new(alloc)),
+    }
+}
+
+// That a rule fails at a place under notes, in the state there.
+fn refused_in(alloc: Global, image: &Image, notes: &Notes, place: u32, rule: RuleName) -> Halt
+    requires image { IsImage image.now }
+    requires notes { IsNotes notes.now }
+    requires cause { FailsUnder image.now notes.now place rule }
+    ensures { EndsByRule image.now notes.now result }
+{
+    match state_there(alloc, image, notes, place) {
+        Ok(state) => Halt::Refused { place, rule, state },
+        Err(_) => Halt::NoMemory,
+    }
 }
 
 // Whether the image keeps all rules under notes.
@@ -55,7 +60,7 @@ fn check_rules(alloc: Global, image: &Image, notes: &Notes) -> Result<(), Halt>
 {
     match check(alloc, image, notes)? {
         Verdict::Neutral => Ok(()),
-        Verdict::Refused { place, rule } => Err(refused_in(alloc, image, notes, place, rule)?),
+        Verdict::Refused { place, rule } => Err(refused_in(alloc, image, notes, place, rule)),
     }
 }
 
