@@ -589,6 +589,12 @@ said_elsewhere() {
   said 'what is said of a label that is far from all' self.plan n < <(
     echo 'n:2:8: error: function[0].name is "nowhere", and no object has a label nowhere'
     split '  labels: main, self|  see docs/LABELS.md, "Faults of labels"')
+  local long
+  long=$(printf 'x%.0s' {1..200})
+  lines '[[thunk]]' "place = \"$long\"" >n
+  said 'what is said of a label of 200 letters' self.plan n < <(
+    echo "n:2:9: error: thunk[0].place is \"${long:0:100}..\"; wanted: LABEL or OBJECT:LABEL, and +N behind it with N from 0 to 4194303"
+    echo '  see docs/LABELS.md, "Faults of labels"')
   { cat shapes; lines '[[static]] | place = "first+8" | shape = "N"'; } >n
   said 'what is said of a count of none' counts.plan n < <(
     echo 'n:3:1: error: static[0].count is left out, and not one instance fits between the label and the next one, or the label is one of the code'
