@@ -1,9 +1,11 @@
 //! The search for points, function by function.
 
-ghost use Rattle.std.specs.Prelude.{ℕ};
+ghost use Rattle.std.specs.Prelude.{◌≤◌, ℕ, length};
+ghost use Rattle.note_types.specs.Limits.{point_limit};
 ghost use Rattle.note_types.specs.Records.{IsNotes};
 ghost use Rattle.pe_image.specs.Images.{IsImage};
 ghost use Rattle.rules_image.specs.Images.{FunctionHolds};
+ghost use Rattle.note_infer.specs.Leaders.{AreLeaders};
 
 use crate::course::Course;
 use crate::marks::marks_of;
@@ -40,19 +42,43 @@ fn settle(alloc: Global, search: &Search, func: u32, course: &mut Course) -> Res
     Ok(false)
 }
 
-// The points that are found at leaders, where each function's search comes to an end.
-fn points_at(alloc: Global, search: &Search) -> Result<Option<Vec<Point>>, NoMemory>
-    requires image { IsImage search.now.image.now }
-    requires notes { IsNotes search.now.notes.now }
-    requires functions { (k : ℕ) → FunctionHolds search.now.image.now search.now.notes.now k }
+// The points that are found under notes with the leaders as points, where each function's search comes to an end.
+fn points_under(
+    alloc: Global,
+    image: &Image,
+    notes: &Notes,
+    leaders: &[u32],
+) -> Result<Option<Vec<Point>>, NoMemory>
+    requires image { IsImage image.now }
+    requires notes { IsNotes notes.now }
 {
-    let mut course = Course::new(alloc, search.leaders)?;
-    for func in 0..search.notes.function.len() {
-        if !settle(alloc, search, func as u32, &mut course)? {
+    let Ok(()) = check_functions(image, notes) else {
+        return Ok(None);
+    };
+    let search = Search {
+        image,
+        notes,
+        leaders,
+    };
+    let mut course = Course::new(alloc, leaders)?;
+    for func in 0..notes.function.len() {
+        if !settle(alloc, &search, func as u32, &mut course)? {
             return Ok(None);
         }
     }
     Ok(Some(course.into_points()?))
+}
+
+// The points that are found at leaders.
+fn points_at(alloc: Global, search: &Search) -> Result<Option<Vec<Point>>, NoMemory>
+    requires image { IsImage search.now.image.now }
+    requires notes { IsNotes search.now.notes.now }
+    requires functions { (k : ℕ) → FunctionHolds search.now.image.now search.now.notes.now k }
+    requires leaders { AreLeaders search.now.image.now search.now.notes.now search.now.leaders.now }
+    requires few { length search.now.leaders.now ≤ point_limit search.now.notes.now.version }
+{
+    let marked = marked(alloc, search.notes, search.leaders)?;
+    points_under(alloc, search.image, &marked, search.leaders)
 }
 
 /// Points for an image under notes, whose own points are ignored: the states at the leaders that the search comes to, in the order of
@@ -77,10 +103,9 @@ pub fn search_points(
     if point_limit(notes.version) < leaders.len() as u64 {
         return Ok(None);
     }
-    let marked = marked(alloc, notes, leaders.as_slice())?;
     let search = Search {
         image,
-        notes: &marked,
+        notes,
         leaders: leaders.as_slice(),
     };
     points_at(alloc, &search)
