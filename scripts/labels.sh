@@ -247,7 +247,9 @@ order() {
     awk 'BEGIN { RS = ""; ORS = "\n\n" } !/name = "tick"/' driver.labels
   } >n
   row 'another order, and own points and sites' 0 driver.plan n < <(
-    sed 's/^regs = .*/regs = ["R7 status!p"]/; /^written = \[\]$/d' "$top/examples/driver/driver.notes")
+    sed 's/^regs = .*/regs = ["R7 status!p"]/; /^written = \[\]$/d' "$top/examples/driver/driver.notes" | tee ordered.notes)
+  sed 's/^name = "tick"/&\nneed = [1, 0]/' n >m
+  row "another order, and one need of the text's own" 0 driver.plan m < <(sed '/^name = "tick"/,/^place/s/^need.*/need = [1, 0]/' ordered.notes)
 }
 
 # Several signatures of one method.

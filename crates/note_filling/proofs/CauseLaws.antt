@@ -1,6 +1,7 @@
 -- Why a text isn't filled, by the step that ends it.
 use Rattle.note_filling.proofs.Common.{ℕ, List, Option, refl, inl, inr, Result, codes, NotesEnd, TomlFault, Data, Members, get_member}
-use Rattle.note_filling.proofs.Common.{Fails, of_notes, AreFilledLists, IsAssembled, FillEnd, Lists}
+use Rattle.std.specs.Option.{unwrap_or}
+use Rattle.note_filling.proofs.Common.{◌∙◌, ap, string, Some, Fails, of_notes, AreFilledLists, IsAssembled, FillEnd, Lists}
 use Rattle.note_filling.specs.{Causes.HasCause, Causes.HasFormFault, Causes.IsKeptInPlace, Causes.forms_of, Originals.AreOrders}
 use Rattle.note_filling.specs.Views.{AreArranged, AreOrdered}
 use Rattle.note_filling.specs.declared.{end.Flaw.Flaw as Fault, table.Orders.Orders}
@@ -16,11 +17,11 @@ caused_label ends.NoMemory labels cause fails = tt
 caused_label (ends.Flaw f) labels cause fails = inl fails
 
 -- a text that is filled in its own order
-pub kept_in_place : (place : List ℕ → Option ℕ) (old new : Members) (filled : Lists) → AreFilledLists place old filled
-    → IsAssembled filled old new → IsKeptInPlace place old new
-kept_in_place place old new filled are is = record {
+pub kept_in_place : (place : List ℕ → Option ℕ) (name : List ℕ) (old new : Members) (filled : Lists) → AreFilledLists place old filled
+    → IsAssembled name filled old new → IsKeptInPlace place old new
+kept_in_place place name old new filled are is = record {
   version = is.version;
-  entry = is.entry;
+  entry = λ d there. is.entry ∙ ap (λ o. Some (unwrap_or o (string name))) there;
   statics = list-kept place lists.Static (get_member (codes "static") old) filled.statics (get_member (codes "static") new) are.statics
       is.statics;
   thunk = list-kept place lists.Thunk (get_member (codes "thunk") old) filled.thunks (get_member (codes "thunk") new) are.thunks is.thunks;
@@ -38,11 +39,12 @@ caused_form notes.NoMemory labels place old new kept fails = tt
 caused_form (notes.Fault f) labels place old new kept fails = inr (refl, record { new = new; kept = kept; reading = fails })
 
 -- the numbers that functions, points and sites of a filled text had
-pub orders_of : (place : List ℕ → Option ℕ) (points sites : List Data) (old new : Members) (filled made : Lists) (orders : Orders)
+pub orders_of : (place : List ℕ → Option ℕ) (points sites : List Data) (name : List ℕ) (old new : Members) (filled made : Lists)
+    (orders : Orders)
     → AreFilledLists place old filled → AreArranged filled points sites made → AreOrdered filled points sites orders made
-    → IsAssembled made old new
+    → IsAssembled name made old new
     → AreOrders place points sites orders.functions.items orders.points.items orders.sites.items old new
-orders_of place points sites old new filled made orders are arranged order is = record {
+orders_of place points sites name old new filled made orders are arranged order is = record {
   functions = list_order place lists.Function _ orders.functions.items (get_member (codes "function") old) filled.functions
       made.functions (get_member (codes "function") new) are.functions arranged.functions order.functions is.functions;
   points = list_order place lists.Point points orders.points.items (get_member (codes "point") old) filled.points made.points

@@ -8,7 +8,6 @@ use Rattle.ebc_link.proofs.LaidLaws.{at_hand, taken}
 use Rattle.label_places.specs.declared.label.Label.{Label}
 use Rattle.toml.specs.{Data.item, Data.as_array, View.items_of}
 use Rattle.note_filling.specs.{Kept.IsItemKept, Kept.IsListKept, Kept.IsListMade, Kept.IsListMixed, Kept.list_of, Rows.item_labels}
-use Rattle.note_filling.specs.Rows.{place_keys}
 use Rattle.note_filling.specs.declared.end.Flaw.{Flaw}
 use Rattle.note_filling.specs.declared.end.FillEnd.TheVariants as ends
 
@@ -55,10 +54,10 @@ items-done names labels list vs i whole past before =
 -- ---- the items of a list
 
 pub kept-push : (place : List ℕ → Option ℕ) (list : TableList) (old new : List Value) (i : ℕ) (v w : Value) → i < length old
-    → v ≡ get_or old i v → AreKept place list (map view (take i old)) (map view new) → IsItemKept place (place_keys list) (view v) (view w)
+    → v ≡ get_or old i v → AreKept place list (map view (take i old)) (map view new) → IsItemKept place list (view v) (view w)
     → AreKept place list (map view (take (i + 1) old)) (map view (new ++ w ∷ []))
 kept-push place list old new i v w within is before here =
-    let R : Data → Data → Type 0 = IsItemKept place (place_keys list) in
+    let R : Data → Data → Type 0 = IsItemKept place list in
     let olds : map view (take (i + 1) old) ≡ map view (take i old) ++ view v ∷ [] =
     ap (map view) (taken old i v within is) ∙ map-append view (take i old) (v ∷ []) in
     let news : map view (new ++ w ∷ []) ≡ map view new ++ view w ∷ [] = map-append view new (w ∷ []) in

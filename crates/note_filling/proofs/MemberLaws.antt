@@ -4,9 +4,11 @@ use Rattle.note_filling.proofs.Common.{bytes_eq, bytes_eq-Decides, Data, Members
 use Rattle.note_filling.proofs.Common.{put_member, put_missing_member}
 use Rattle.std.proofs.Common.{cond, String, Ordering, Less, Equal, Greater, string_bytes}
 use Rattle.std.proofs.{Common.nat_cmp, Common.is_eq, lemmas.Cmp.nat_list_cmp_total, lemmas.Map.Text.is_eq-slice_cmp, lemmas.Bool.cases_Bool}
+use Rattle.note_filling.proofs.Common.{Result, Ok, Err}
+use Rattle.std.specs.{Option.unwrap_or, Prelude.OnOk}
 use Rattle.std.specs.{Cmp.tied_itself, Cmp.Lexicographic.slice_cmp, Ordering.match_ordering, BTreeMap.insert_entry, String.string_cmp}
 use Rattle.toml.specs.Data.{no_members, member}
-use Rattle.note_filling.specs.Members.{put_where}
+use Rattle.note_filling.specs.Members.{MayBePut, put_where}
 
 -- ---- the map of a table
 
@@ -86,15 +88,67 @@ pub get-put_missing_other : (q k : List ℕ) (d : Data) (ms : Members) → bytes
     → get_member q (put_missing_member k d ms) ≡ get_member q ms
 get-put_missing_other q k d ms other = get_where_other (get_member k ms) q k d ms other
 
-extended_by : (o : Option Data) (k : List ℕ) (d : Data) (ms : Members) → get_member k ms ≡ o → IsExtended ms (put_where o k d ms)
-extended_by (Some e) k d ms is q f there = there
-extended_by None k d ms is q f there = elim (cases_Bool (bytes_eq q k)) [
-  | inl same ↦ let key = (bytes_eq-Decides q k).0 same in cc (is, there, ap (λ name. get_member name ms) key)
-  | inr other ↦ get-put_other q k d ms other ∙ there
-]
+get_where_put : (o : Option Data) (k : List ℕ) (d : Data) (ms : Members) → get_member k ms ≡ o
+    → get_member k (put_where o k d ms) ≡ Some (unwrap_or o d)
+get_where_put None k d ms is = get-put k d ms
+get_where_put (Some e) k d ms is = is
 
-pub extended-put : (k : List ℕ) (d : Data) (ms : Members) → get_member k ms ≡ None → IsExtended ms (put_member k d ms)
-extended-put k d ms none = extended_by None k d ms none
+-- what stands at the key: what stood there, or else what was put
+pub get-put_missing : (k : List ℕ) (d : Data) (ms : Members)
+    → get_member k (put_missing_member k d ms) ≡ Some (unwrap_or (get_member k ms) d)
+get-put_missing k d ms = get_where_put (get_member k ms) k d ms refl
 
-pub extended-put_missing : (k : List ℕ) (d : Data) (ms : Members) → IsExtended ms (put_missing_member k d ms)
-extended-put_missing k d ms = extended_by (get_member k ms) k d ms refl
+-- a table is extended by a value at a key where it may be put
+pub extended-by : (puts : List (List ℕ × Option Data)) (k : List ℕ) (d : Data) (old new : Members) → new ≡ put_missing_member k d old
+    → MayBePut puts k d → IsExtended puts old new
+extended-by puts k d old new is may = record {
+  kept = λ q e there. elim (cases_Bool (bytes_eq q k)) [
+    | inl same ↦ stays q e ((bytes_eq-Decides q k).0 same) there
+    | inr other ↦ beside q other ∙ there
+  ];
+  put = λ q e none there. elim (cases_Bool (bytes_eq q k)) [
+    | inl same ↦ fills q e ((bytes_eq-Decides q k).0 same) none there
+    | inr other ↦ absurd (let no = sym none ∙ (sym (beside q other) ∙ there) in cc)
+  ];
+}
+  where
+    here : get_member k new ≡ Some (unwrap_or (get_member k old) d)
+    here = ap (get_member k) is ∙ get-put_missing k d old
+
+    beside : (q : List ℕ) → bytes_eq q k ≡ false → get_member q new ≡ get_member q old
+    beside q other = ap (get_member q) is ∙ get-put_missing_other q k d old other
+
+    stays : (q : List ℕ) (e : Data) → q ≡ k → get_member q old ≡ Some e → get_member q new ≡ Some e
+    stays q e same there =
+        let stood : get_member k old ≡ Some e = ap (λ name. get_member name old) (sym same) ∙ there in
+        ap (λ name. get_member name new) same ∙ (here ∙ ap (λ o. Some (unwrap_or o d)) stood)
+
+    fills : (q : List ℕ) (e : Data) → q ≡ k → get_member q old ≡ None → get_member q new ≡ Some e → MayBePut puts q e
+    fills q e same none there =
+        let gone : get_member k old ≡ None = ap (λ name. get_member name old) (sym same) ∙ none in
+        let made : get_member k new ≡ Some d = here ∙ ap (λ o. Some (unwrap_or o d)) gone in
+        let found : get_member k new ≡ Some e = ap (λ name. get_member name new) (sym same) ∙ there in
+        let one : d ≡ e = let both = sym made ∙ found in cc in
+        subst (λ name. MayBePut puts name e) (sym same) (subst (MayBePut puts k) one may)
+
+-- two times
+pub extended-twice : (puts : List (List ℕ × Option Data)) (old mid new : Members) → IsExtended puts old mid → IsExtended puts mid new
+    → IsExtended puts old new
+extended-twice puts old mid new first then = record {
+  kept = λ q e there. then.kept q e (first.kept q e there);
+  put = λ q e none there. between q e (get_member q mid) refl none there;
+}
+  where
+    between : (q : List ℕ) (e : Data) (o : Option Data) → get_member q mid ≡ o → get_member q old ≡ None → get_member q new ≡ Some e
+        → MayBePut puts q e
+    between q e None is none there = then.put q e is there
+    between q e (Some f) is none there =
+        let stays = then.kept q f is in
+        let same : f ≡ e = cc in
+        subst (MayBePut puts q) same (first.put q f none is)
+
+-- so where a value is put by a call that may fail
+pub extended-where : {E : Type 0} (r : Result (Unit {0}) E) (puts : List (List ℕ × Option Data)) (k : List ℕ) (d : Data) (old new : Members)
+    → OnOk r (new ≡ put_missing_member k d old) → MayBePut puts k d → OnOk r (IsExtended puts old new)
+extended-where (Ok u) puts k d old new is may = extended-by puts k d old new is may
+extended-where (Err e) puts k d old new is may = tt

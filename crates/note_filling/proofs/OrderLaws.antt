@@ -7,6 +7,12 @@ use Rattle.std.proofs.lemmas.List.Elements.{All-head, All-push, All-tail, All-we
 use Rattle.ebc_base.proofs.Lists.{length-map, slice_get-front}
 use Rattle.note_filling.specs.{Originals.IsOrder, Originals.IsOrderOf, Originals.items_in, Views.items_if_any}
 use Rattle.note_filling.proofs.ListLaws.{list-of-items}
+use Rattle.note_filling.proofs.Common.{◌<◌, get_or, arith}
+use Rattle.std.proofs.{Common.zero, Common.suc}
+use Rattle.std.specs.List.Sorted.{IsNonDecreasingBy}
+use Rattle.std.proofs.Math.ListN.{get_or-map}
+use Rattle.std.proofs.lemmas.List.Sorted.{IsNonDecreasingBy-from_default}
+use Rattle.note_filling.specs.Views.{IsRanked, item_rank}
 
 -- one more item stands behind the others
 stands_last : (items : List Data) (d : Data) → slice_get (items ++ d ∷ []) (length items) ≡ Some d
@@ -43,6 +49,27 @@ pub order_by : (items : List Data) (rs : List Ranked) → All (StoodAmong items)
 order_by items [] all = tt
 order_by items (r ∷ rs) all =
     (All-head (StoodAmong items) r rs all, order_by items rs (All-tail (StoodAmong items) r rs all))
+
+seen : Ranked → Data
+seen r = view r.value
+
+rank_of : (rs : List Ranked) (i : ℕ) (e : Ranked) → All IsRanked rs → i < length rs
+    → (get_or rs i e).place ≡ item_rank (seen (get_or rs i e))
+unfolding seen
+rank_of [] i e all lt = absurd (omega arith)
+rank_of (r ∷ rs) zero e all lt = All-head IsRanked r rs all
+rank_of (r ∷ rs) (suc i) e all lt = rank_of rs i e (All-tail IsRanked r rs all) (omega arith)
+
+-- items that have these ranks ascend as the ranks do
+pub ranks_ascend : (rs : List Ranked) → All IsRanked rs → IsNonDecreasingBy (λ (r : Ranked). r.place) rs
+    → IsNonDecreasingBy item_rank (map (λ (r : Ranked). view r.value) rs)
+unfolding seen
+ranks_ascend [] all up = λ i j d le lt. absurd (omega arith)
+ranks_ascend (r ∷ rs) all up =
+    IsNonDecreasingBy-from_default item_rank (map seen (r ∷ rs)) (seen r) (λ i j le lt.
+    let below : j < length (r ∷ rs) = subst (λ n. j < n) (length-map seen (r ∷ rs)) lt in
+    rw (get_or-map seen (r ∷ rs) i r, get_or-map seen (r ∷ rs) j r) (
+    rw (sym (rank_of (r ∷ rs) i r all (omega arith)), sym (rank_of (r ∷ rs) j r all below)) (up i j r le below)))
 
 -- ---- a list in the printed text
 

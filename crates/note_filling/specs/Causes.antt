@@ -1,5 +1,6 @@
 -- For proofs: what a fault that is no label's comes of where a text is filled. docs/LABELS.md, "What is answered".
-use Rattle.std.specs.Prelude.{◌≡◌, ◌⊎◌, ℕ, ◌<◌, false, List, Option, Some, None, Result, Err, codes}
+use Rattle.std.specs.Prelude.{◌≡◌, ◌⊎◌, ℕ, ◌<◌, pos, false, List, Option, Some, None, Result, Err, codes}
+use Rattle.std.specs.Option.{unwrap_or}
 use Rattle.ebc_base.specs.Steps.{◌>>=◌}
 use Rattle.ebc_base.specs.Tables.{is_named}
 use Rattle.note_draft.specs.Drafts.{draft_of}
@@ -8,7 +9,7 @@ use Rattle.note_draft.specs.Once.{once}
 use Rattle.note_draft.specs.declared.finding.TableList.TheVariants as lists
 use Rattle.note_types.specs.declared.fault.TomlFault.{TomlFault}
 use Rattle.note_types.specs.declared.fault.TomlFault.TheVariants.{NotToml}
-use Rattle.toml.specs.Data.{Data, Members, get_member, members_depth}
+use Rattle.toml.specs.Data.{Data, Members, get_member, integer, members_depth}
 use Rattle.note_filling.specs.Kept.{IsListKept, IsTextKept, filled_keys}
 use Rattle.note_filling.specs.declared.end.FillEnd.{FillEnd}
 use Rattle.note_filling.specs.declared.end.FillEnd.TheVariants as ends
@@ -23,7 +24,7 @@ forms_of table = do
 
 -- The whole text is kept as `IsTextKept` has it, with each list in its own order and no points and sites beside its own.
 pub record IsKeptInPlace (place : List ℕ → Option ℕ) (old new : Members) : Type 0 where
-  pub version : (d : Data) → get_member (codes "version") old ≡ Some d → get_member (codes "version") new ≡ Some d
+  pub version : get_member (codes "version") new ≡ Some (unwrap_or (get_member (codes "version") old) (integer (pos 1)))
   pub entry : (d : Data) → get_member (codes "entry") old ≡ Some d → get_member (codes "entry") new ≡ Some d
   pub statics : IsListKept place lists.Static (get_member (codes "static") old) (get_member (codes "static") new)
   pub thunk : IsListKept place lists.Thunk (get_member (codes "thunk") old) (get_member (codes "thunk") new)

@@ -1,22 +1,26 @@
 -- For proofs: what the steps of a filling leave of a table, of its lists and of the text.
 use Rattle.std.specs.Prelude.{◌≡◌, ◌⊎◌, ℕ, List, [], ◌∷◌, ◌++◌, Option, Some, None, Result, Ok, Err, Vec, false, bytes_eq, codes, map}
-use Rattle.std.specs.Prelude.{IsPermutation, pos, slice_get}
+use Rattle.std.specs.Prelude.{IsPermutation, pos, slice_get, option_map, option_and_then, ◌-◌, ◌/◌, suc}
+use Rattle.std.specs.BTreeMap.{get_by_text}
 use Rattle.std.specs.declared.alloc.Global.{Global}
 use Rattle.ebc_base.specs.Tables.{is_named}
+use Rattle.label_places.specs.Ends.{IsEndBehind, code_end_at, places_in, section_end}
 use Rattle.label_places.specs.Sought.{place_by}
-use Rattle.label_places.specs.declared.label.Label.{Label}
+use Rattle.label_places.specs.declared.label.{Label.Label, ObjectSpan.ObjectSpan}
 use Rattle.note_draft.specs.declared.finding.TableList.{TableList}
 use Rattle.note_draft.specs.declared.finding.TableList.TheVariants as lists
-use Rattle.toml.specs.Data.{Data, Members, array, get_member, integer}
+use Rattle.toml.specs.Data.{Data, Members, array, get_member, integer, string, table}
+use Rattle.std.specs.Option.{unwrap_or}
 use Rattle.toml.specs.View.{items_of, view}
 use Rattle.toml.specs.declared.value.Value.{Value}
 use Rattle.note_filling.specs.Kept.{AreKept, IsPlacedAs, filled_keys, list_of}
-use Rattle.note_filling.specs.Members.{put_member}
-use Rattle.note_filling.specs.declared.context.Context.{Context}
+use Rattle.note_filling.specs.Members.{number_at_key, number_value, pair_value, put_member, put_missing_member}
+use Rattle.note_filling.specs.declared.context.{Context.Context, Found.Found}
 use Rattle.note_filling.specs.declared.end.FillEnd.{FillEnd}
 use Rattle.note_filling.specs.declared.end.FillEnd.TheVariants as ends
 use Rattle.note_filling.specs.declared.end.Flaw.{Flaw as Fault}
 use Rattle.note_filling.specs.declared.label.Placed.{Placed}
+use Rattle.note_filling.specs.declared.known.Known.{Known}
 use Rattle.note_filling.specs.declared.order.Ranked.{Ranked}
 use Rattle.note_filling.specs.declared.table.Lists.{Lists}
 use Rattle.note_filling.specs.declared.table.Orders.{Orders}
@@ -41,6 +45,37 @@ pub record IsReplaced (place : List ℕ → Option ℕ) (key : List ℕ) (old ne
 abbrev pub put_place : List ℕ → Option Placed → Members → Members
 put_place key None ms = ms
 put_place key (Some p) ms = put_member key (integer (pos p.place)) ms
+
+-- ---- what tables leave out
+
+abbrev pub context_spans : Context → List ObjectSpan
+context_spans c = c.labels.now.spans
+
+-- where the code of a function ends whose end is left out: at the next of the functions' places, or with the code of its object
+abbrev pub IsLeftEnd : List ObjectSpan → (places : List ℕ) → Option ℕ → Option ℕ → Type 0
+IsLeftEnd spans places None end = end ≡ None
+IsLeftEnd spans places (Some place) end = IsEndBehind place (code_end_at place spans) places end
+
+-- a function's table with its level and its need, by its number in the text, where it leaves them out; 0 where they aren't known
+abbrev pub with_found : Found → ℕ → Members → Members
+with_found found number ms =
+    put_missing_member (codes "need") (pair_value (unwrap_or (slice_get found.needs.now number) (record { n = 0; c = 0 })))
+    (put_missing_member (codes "level") (number_value (unwrap_or (slice_get found.levels.now number) 0)) ms)
+
+-- how many instances of so many bytes lie between a place and an end; 1 where there is no end, or no byte in an instance
+abbrev pub instances : ℕ → Option ℕ → Option ℕ → ℕ
+instances place (Some end) (Some (suc n)) = (end - place) / suc n
+instances place end size = 1
+
+-- how many bytes an instance of the shape of a name takes, where the text says it
+abbrev pub known_size : Known → Option (List ℕ) → Option ℕ
+known_size known name = option_and_then (get_by_text known.sizes) name
+
+-- a count of instances between the place of a label and where what begins there ends
+abbrev pub IsCount : List ObjectSpan → List Label → Placed → Option ℕ → ℕ → Type 0
+IsCount spans labels p size count =
+    (end : Option ℕ) × (IsEndBehind p.place (option_map (section_end p.position.section) (slice_get spans p.position.object))
+    (places_in p.position.object p.position.section labels) end × (count ≡ instances p.place end size))
 
 -- ---- lists
 
@@ -85,6 +120,17 @@ pub record AreArranged (old : Lists) (more_points more_sites : List Data) (new :
   pub points : IsArranged old.points more_points new.points
   pub sites : IsArranged old.sites more_sites new.sites
 
+-- the place of an item, where it has one, and the number by which items are put in order
+abbrev pub item_place : Data → Option ℕ
+item_place (table row) = number_at_key (codes "place") row
+item_place d = None
+
+abbrev pub item_rank : Data → ℕ
+item_rank d = unwrap_or (item_place d) 0xffffffffffffffff
+
+abbrev pub IsRanked : Ranked → Type 0
+IsRanked r = r.place ≡ item_rank (view r.value)
+
 -- an item stood at its number among these
 abbrev pub StoodAmong : List Data → Ranked → Type 0
 StoodAmong items r = slice_get items r.index ≡ Some (view r.value)
@@ -100,10 +146,10 @@ abbrev pub put_items : List ℕ → Option (Vec Value Global) → Members → Me
 put_items key None ms = ms
 put_items key (Some values) ms = put_member key (array (items_of (map view values.items))) ms
 
--- A text with these lists; its version and its entry stay where it has them.
-pub record IsAssembled (made : Lists) (old new : Members) : Type 0 where
-  pub version : (d : Data) → get_member (codes "version") old ≡ Some d → get_member (codes "version") new ≡ Some d
-  pub entry : (d : Data) → get_member (codes "entry") old ≡ Some d → get_member (codes "entry") new ≡ Some d
+-- A text with these lists. Its version and its entry stay where it has them, and are else 1 and this one.
+pub record IsAssembled (entry_name : List ℕ) (made : Lists) (old new : Members) : Type 0 where
+  pub version : get_member (codes "version") new ≡ Some (unwrap_or (get_member (codes "version") old) (integer (pos 1)))
+  pub entry : get_member (codes "entry") new ≡ Some (unwrap_or (get_member (codes "entry") old) (string entry_name))
   pub statics : get_member (codes "static") new ≡ list_or_old made.statics (get_member (codes "static") old)
   pub thunks : get_member (codes "thunk") new ≡ list_or_old made.thunks (get_member (codes "thunk") old)
   pub functions : get_member (codes "function") new ≡ list_or_old made.functions (get_member (codes "function") old)

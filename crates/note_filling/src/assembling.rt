@@ -84,7 +84,7 @@ pub(crate) fn assembled(
     lists: Lists,
     mut table: Table,
 ) -> Result<Table, NoMemory>
-    ensures { IfOk result (λ made. IsAssembled lists (table_view table) (table_view made)) }
+    ensures { IfOk result (λ made. IsAssembled entry.now lists (table_view table) (table_view made)) }
 {
     put_missing(alloc, &mut table, "version", number(1))?;
     let entry = Value::string(alloc, entry.as_str())?;

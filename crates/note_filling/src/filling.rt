@@ -6,7 +6,7 @@ ghost use Rattle.note_filling.specs.Causes.{HasCause, IsTooDeep};
 ghost use Rattle.note_filling.specs.Ends.{Checks};
 ghost use Rattle.note_filling.specs.Originals.{AreOrders};
 ghost use Rattle.note_filling.specs.Kept.{AreKept, IsItemKept, IsTextKept};
-ghost use Rattle.note_filling.specs.Rows.{item_labels, items_labels, list_labels, place_keys, text_labels};
+ghost use Rattle.note_filling.specs.Rows.{item_labels, items_labels, list_labels, text_labels};
 ghost use Rattle.note_filling.specs.Views.{AreFilledLists, GoesOnOrRefuses, IsFilledList, context_labels, context_names, context_place};
 
 use crate::assembling::{arranged, assembled};
@@ -36,7 +36,7 @@ fn filled_value(
 ) -> Result<Value, FillEnd>
     ensures labels { Checks result (item_labels (context_names rows.entry.context) (context_labels rows.entry.context) list item
         (view value)) }
-    ensures kept { IfOk result (λ v. IsItemKept (context_place rows.entry.context) (place_keys list) (view value) (view v)) }
+    ensures kept { IfOk result (λ v. IsItemKept (context_place rows.entry.context) list (view value) (view v)) }
 {
     match value {
         Value::Table(mut row) => match fill_row(alloc, rows, list, item, &mut row) {
@@ -57,7 +57,7 @@ fn filled_item(
 ) -> Result<Value, FillEnd>
     ensures labels { Checks result (item_labels (context_names rows.entry.context) (context_labels rows.entry.context) list item
         (view value.now)) }
-    ensures kept { IfOk result (λ v. IsItemKept (context_place rows.entry.context) (place_keys list) (view value.now) (view v)) }
+    ensures kept { IfOk result (λ v. IsItemKept (context_place rows.entry.context) list (view value.now) (view v)) }
 {
     match value.clone() {
         Ok(copy) => filled_value(alloc, rows, list, item, copy),

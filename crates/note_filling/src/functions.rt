@@ -4,15 +4,15 @@ ghost use Rattle.note_draft.specs.declared.finding.Key.TheVariants as keys;
 ghost use Rattle.note_draft.specs.declared.finding.TableList.TheVariants as lists;
 ghost use Rattle.toml.specs.View.{table_view};
 ghost use Rattle.note_filling.specs.Ends.{Checks};
-ghost use Rattle.note_filling.specs.Kept.{IsRowKept};
-ghost use Rattle.note_filling.specs.Members.{IsExtended, text_at_key};
+ghost use Rattle.note_filling.specs.Kept.{IsRowKept, left_out};
+ghost use Rattle.note_filling.specs.Members.{IsExtended, StaysOut, text_at_key};
 ghost use Rattle.note_filling.specs.Rows.{label_fault, place_keys, place_naming_text, row_labels};
-ghost use Rattle.note_filling.specs.Views.{IsReplaced, context_labels, context_names, context_place};
+ghost use Rattle.note_filling.specs.Views.{IsLeftEnd, IsReplaced, context_labels, context_names, context_place, context_spans, with_found};
 
 use crate::context::Context;
 use crate::end::FillEnd;
 use crate::label::{labelled_place, placed_by};
-use crate::members::{number, number_at, pair, put_missing, put_placed, text_at, value_at};
+use crate::members::{number, number_at, pair, put_missing, put_placed, text_at, truth, value_at};
 use crate::rows::replace_label;
 use crate::table::Rows;
 use ebc_base::NoMemory;
@@ -98,6 +98,7 @@ fn put_end(alloc: Global, context: Context, item: usize, row: &mut Table) -> Res
     ensures labels { Checks result (label_fault (context_names context.entry) (context_labels context.entry) lists.Function keys.End item
         (text_at_key (codes "end") (table_view row.old))) }
     ensures replaced { OnOk result (IsReplaced (context_place context.entry) (codes "end") (table_view row.old) (table_view row.new)) }
+    ensures left { OnOk result (StaysOut (codes "end") (table_view row.old) (table_view row.new)) }
 {
     let finding = Finding {
         list: TableList::Function,
@@ -109,7 +110,9 @@ fn put_end(alloc: Global, context: Context, item: usize, row: &mut Table) -> Res
 }
 
 // Where a function's code ends that leaves it out: where the next function begins, or else where its object's code ends.
-fn left_end(rows: Rows, place: Option<u64>) -> Option<u64> {
+fn left_end(rows: Rows, place: Option<u64>) -> Option<u64>
+    ensures { IsLeftEnd (context_spans rows.entry.context) rows.entry.known.now.places place result }
+{
     let place = place?;
     let bound = rows.context.labels.code_end(place)?;
     Some(rows.known.places.next_above(place, bound))
@@ -122,7 +125,7 @@ fn put_left_end(
     place: Option<u64>,
     row: &mut Table,
 ) -> Result<(), NoMemory>
-    ensures { OnOk result (IsExtended (table_view row.old) (table_view row.new)) }
+    ensures { OnOk result (IsExtended (left_out lists.Function) (table_view row.old) (table_view row.new)) }
 {
     match left_end(rows, place) {
         Some(end) => put_missing(alloc, row, "end", number(end)),
@@ -132,7 +135,7 @@ fn put_left_end(
 
 // Puts what the code says of a function: its level and its need.
 fn put_found(alloc: Global, rows: Rows, item: usize, row: &mut Table) -> Result<(), NoMemory>
-    ensures { OnOk result (IsExtended (table_view row.old) (table_view row.new)) }
+    ensures { OnOk result (table_view row.new ≡ with_found rows.entry.found item (table_view row.old)) }
 {
     let level = match rows.found.levels.get(item) {
         Some(level) => *level,
@@ -143,16 +146,16 @@ fn put_found(alloc: Global, rows: Rows, item: usize, row: &mut Table) -> Result<
         None => Pair { n: 0, c: 0 },
     };
     put_missing(alloc, row, "level", number(level))?;
-    put_missing(alloc, row, "need", pair(alloc, need.n, need.c)?)
+    put_missing(alloc, row, "need", pair(alloc, need)?)
 }
 
 // Puts what a function's own table and the text say: its result, and whether it is entered.
 fn put_interface(alloc: Global, rows: Rows, row: &mut Table) -> Result<(), NoMemory>
-    ensures { OnOk result (IsExtended (table_view row.old) (table_view row.new)) }
+    ensures { OnOk result (IsExtended (left_out lists.Function) (table_view row.old) (table_view row.new)) }
 {
     put_missing(alloc, row, "result", Value::string(alloc, "any")?)?;
     if is_entered(rows, row) {
-        put_missing(alloc, row, "enter", Value::Boolean(true))?;
+        put_missing(alloc, row, "enter", truth(true))?;
     }
     Ok(())
 }
@@ -165,7 +168,7 @@ fn fill_left(
     place: Option<u64>,
     row: &mut Table,
 ) -> Result<(), NoMemory>
-    ensures { OnOk result (IsExtended (table_view row.old) (table_view row.new)) }
+    ensures { OnOk result (IsExtended (left_out lists.Function) (table_view row.old) (table_view row.new)) }
 {
     put_left_end(alloc, rows, place, row)?;
     put_found(alloc, rows, item, row)?;
@@ -183,8 +186,8 @@ pub(crate) fn fill_function(
 ) -> Result<(), FillEnd>
     ensures labels { Checks result (row_labels (context_names rows.entry.context) (context_labels rows.entry.context) lists.Function item
         (table_view row.old)) }
-    ensures kept { OnOk result (IsRowKept (context_place rows.entry.context) (place_keys lists.Function) (table_view row.old)
-        (table_view row.new)) }
+    ensures kept { OnOk result (IsRowKept (context_place rows.entry.context) (place_keys lists.Function) (left_out lists.Function)
+        (table_view row.old) (table_view row.new)) }
 {
     let place = put_place(alloc, rows.context, item, row)?;
     put_end(alloc, rows.context, item, row)?;

@@ -5,12 +5,13 @@
 //! Promises:
 //!
 //! - `fill`: the text that it gives says all that the maker's text says (`kept`, `IsTextKept`):
-//!   - version and entry, if the text has them;
+//!   - version and entry, if the text has them; else the version is 1;
 //!   - static objects and thunk cells, one by one in their order;
 //!   - functions, points and sites as a permutation, with just the points and sites that were handed in among them;
 //!   - at every other key the same, so each shape and each signature.
 //! - In a table of that text each key stands as it is. But at `place`, and at `end` of a function, a text is replaced
-//!   by the place of the one label that it names (`place_by`).
+//!   by the place of the one label that it names (`place_by`). What the table has besides stands at keys that may be left
+//!   out, with the one value that a left out key stands for, where there is one (`left_out`).
 //! - `fill`, `check_forms`: a fault of a label is the first one (`text_labels`), list by list in the order static,
 //!   thunk, function, point and site, table by table, `place` before `end`; and where they go on, no label has a fault
 //!   (`labels`).

@@ -1,12 +1,13 @@
 //! What stands at the keys of tables, and putting something there.
-ghost use Rattle.std.specs.Prelude.{◌≡◌, ◌<◌, ◌^◌, option_map, OnOk, IfSome, pos};
-ghost use Rattle.toml.specs.Data.{get_member, integer};
+ghost use Rattle.std.specs.Prelude.{◌≡◌, ◌<◌, ◌^◌, option_map, OnOk, IfOk, IfSome, pos};
+ghost use Rattle.toml.specs.Data.{boolean, get_member, integer};
 ghost use Rattle.toml.specs.View.{view, table_view};
 ghost use Rattle.note_filling.specs.Views.{put_place};
-ghost use Rattle.note_filling.specs.Members.{IsExtended, put_member, put_missing_member, text_at_key};
+ghost use Rattle.note_filling.specs.Members.{number_at_key, number_value, pair_value, put_member, put_missing_member, text_at_key};
 
 use crate::label::Placed;
 use ebc_base::NoMemory;
+use note_types::Pair;
 use std::alloc::{AllocError, Global};
 use toml::{Table, Value};
 
@@ -28,7 +29,9 @@ pub fn text_at<'a>(table: &'a Table, key: &str) -> Option<&'a str>
 }
 
 /// The number at a key, where one is there that is no less than 0.
-pub(crate) fn number_at(table: &Table, key: &str) -> Option<u64> {
+pub(crate) fn number_at(table: &Table, key: &str) -> Option<u64>
+    ensures { result ≡ number_at_key key.now (table_view table.now) }
+{
     let number = value_at(table, key)?.as_integer()?;
     match u64::try_from(number) {
         Ok(number) => Some(number),
@@ -73,8 +76,7 @@ pub(crate) fn put_missing(
     key: &str,
     value: Value,
 ) -> Result<(), NoMemory>
-    ensures is { OnOk result (table_view table.new ≡ put_missing_member key.now (view value) (table_view table.old)) }
-    ensures extended { OnOk result (IsExtended (table_view table.old) (table_view table.new)) }
+    ensures { OnOk result (table_view table.new ≡ put_missing_member key.now (view value) (table_view table.old)) }
 {
     match value_at(table, key) {
         Some(_) => Ok(()),
@@ -103,7 +105,8 @@ pub(crate) fn put_placed(
 
 /// A number as a value; the greatest one for those past it.
 pub(crate) fn number(number: u64) -> Value
-    ensures { number < 2 ^ 63 → view result ≡ integer (pos number) }
+    ensures value { view result ≡ number_value number }
+    ensures small { number < 2 ^ 63 → view result ≡ integer (pos number) }
 {
     match i64::try_from(number) {
         Ok(number) => Value::Integer(number),
@@ -111,10 +114,19 @@ pub(crate) fn number(number: u64) -> Value
     }
 }
 
+/// A truth value as a value.
+pub(crate) fn truth(holds: bool) -> Value
+    ensures { view result ≡ boolean holds }
+{
+    Value::Boolean(holds)
+}
+
 /// A pair as a value.
-pub(crate) fn pair(alloc: Global, n: u64, c: u64) -> Result<Value, AllocError> {
+pub(crate) fn pair(alloc: Global, pair: Pair) -> Result<Value, AllocError>
+    ensures { IfOk result (λ v. view v ≡ pair_value pair) }
+{
     let mut items = Vec::new(alloc);
-    items.push(number(n))?;
-    items.push(number(c))?;
+    items.push(number(pair.n))?;
+    items.push(number(pair.c))?;
     Ok(Value::Array(items))
 }

@@ -2,7 +2,8 @@
 ghost use Rattle.std.specs.Prelude.{◌≡◌, map, All, IfOk, IsPermutation};
 ghost use Rattle.toml.specs.View.{view};
 ghost use Rattle.note_filling.specs.Originals.{IsOrder, original_path, renumbered};
-ghost use Rattle.note_filling.specs.Views.{StoodAmong};
+ghost use Rattle.note_filling.specs.Views.{IsRanked, StoodAmong, item_place, item_rank};
+ghost use Rattle.std.specs.List.Sorted.{IsNonDecreasingBy};
 
 use crate::members::number_at;
 use ebc_base::{Name, NoMemory};
@@ -19,7 +20,9 @@ struct Ranked {
 }
 
 // The place of an item, where it has one.
-fn place_of(item: &Value) -> Option<u64> {
+fn place_of(item: &Value) -> Option<u64>
+    ensures { result ≡ item_place (view item.now) }
+{
     match item.as_table() {
         Some(row) => number_at(row, "place"),
         None => None,
@@ -30,6 +33,7 @@ fn place_of(item: &Value) -> Option<u64> {
 fn with_places(alloc: Global, items: Vec<Value>) -> Result<Vec<Ranked>, NoMemory>
     ensures values { IfOk result (λ all. map (λ r. view r.value) all.items ≡ map view items.items) }
     ensures stood { IfOk result (λ all. All (StoodAmong (map view items.items)) all.items) }
+    ensures ranked { IfOk result (λ all. All IsRanked all.items) }
 {
     let mut all = Vec::new(alloc);
     for value in items {
@@ -68,6 +72,7 @@ pub(crate) fn by_place(
     alloc: Global,
     items: Vec<Value>,
 ) -> Result<(Vec<Value>, Vec<usize>), NoMemory>
+    ensures ascend { IfOk result (λ parts. IsNonDecreasingBy item_rank (map view parts.0.items)) }
     ensures moved { IfOk result (λ parts. IsPermutation (map view items.items) (map view parts.0.items)) }
     ensures order { IfOk result (λ parts. IsOrder (map view items.items) parts.1.items (map view parts.0.items)) }
 {

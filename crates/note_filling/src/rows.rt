@@ -4,8 +4,8 @@ ghost use Rattle.note_draft.specs.Findings.{path_of};
 ghost use Rattle.note_draft.specs.declared.finding.Key.TheVariants as keys;
 ghost use Rattle.toml.specs.View.{table_view};
 ghost use Rattle.note_filling.specs.Ends.{Checks, Gives};
-ghost use Rattle.note_filling.specs.Kept.{IsRowKept};
-ghost use Rattle.note_filling.specs.Members.{text_at_key};
+ghost use Rattle.note_filling.specs.Kept.{IsRowKept, left_out};
+ghost use Rattle.note_filling.specs.Members.{StaysOut, text_at_key};
 ghost use Rattle.note_filling.specs.Places.{labelled_place};
 ghost use Rattle.note_filling.specs.Rows.{is_code, label_fault, place_keys, row_labels};
 ghost use Rattle.note_filling.specs.Views.{IsReplaced, context_labels, context_names, context_place};
@@ -33,6 +33,7 @@ pub(crate) fn replace_label(
     ensures gives { Gives result (labelled_place code (context_names context.entry) (context_labels context.entry) (path_of finding)
         (text_at_key key.now (table_view row.old))) }
     ensures replaced { OnOk result (IsReplaced (context_place context.entry) key.now (table_view row.old) (table_view row.new)) }
+    ensures left { OnOk result (StaysOut key.now (table_view row.old) (table_view row.new)) }
     ensures small { IfOk result (λ found. IfSome found (λ p. p.place < 2 ^ 33)) }
 {
     let placed = labelled_place(alloc, context, code, finding, text_at(row, key))?;
@@ -60,7 +61,8 @@ fn fill_place(
 ) -> Result<(), FillEnd>
     ensures labels { Checks result (label_fault (context_names context.entry) (context_labels context.entry) list keys.Place item
         (text_at_key (codes "place") (table_view row.old))) }
-    ensures kept { OnOk result (IsRowKept (context_place context.entry) (codes "place" ∷ []) (table_view row.old) (table_view row.new)) }
+    ensures kept { OnOk result (IsRowKept (context_place context.entry) (codes "place" ∷ []) []
+        (table_view row.old) (table_view row.new)) }
 {
     let key = Key::Place;
     let finding = Finding { list, item, key };
@@ -79,7 +81,8 @@ pub(crate) fn fill_row(
 ) -> Result<(), FillEnd>
     ensures labels { Checks result (row_labels (context_names rows.entry.context) (context_labels rows.entry.context) list item
         (table_view row.old)) }
-    ensures kept { OnOk result (IsRowKept (context_place rows.entry.context) (place_keys list) (table_view row.old) (table_view row.new)) }
+    ensures kept { OnOk result (IsRowKept (context_place rows.entry.context) (place_keys list) (left_out list)
+        (table_view row.old) (table_view row.new)) }
 {
     match list {
         TableList::Static => fill_static(alloc, rows, item, row),

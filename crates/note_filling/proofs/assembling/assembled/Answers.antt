@@ -1,17 +1,16 @@
-use Rattle.note_filling.proofs.Common.{table_view, view}
+use Rattle.note_filling.proofs.Common.{table_view}
 use Rattle.note_filling.proofs.TextLaws.{assembled_by}
 use Rattle.note_filling.proofs.assembling.assembled.Goals as goal
 
 pub returns : goal.returns
 returns c =
-    assembled_by c.args.lists (table_view c.args.table) (table_view c.put_missing.new.table) (table_view c.put_missing-2.new.table)
+    assembled_by c.args.entry.now c.args.lists (table_view c.args.table) (table_view c.put_missing.new.table)
+    (table_view c.put_missing-2.new.table)
     (table_view c.put_list.new.table) (table_view c.put_list-2.new.table) (table_view c.put_list-3.new.table)
     (table_view c.put_list-4.new.table) (table_view c.put_list-5.new.table)
     (record {
-      v = view c.number.result;
-      e = view c.in_ok-entry.entry;
-      version = c.in_ok-put_missing.ensures.is;
-      entry = c.in_ok-put_missing-2.ensures.is;
+      version = rw c.number.ensures.value at c.in_ok-put_missing.ensures;
+      entry = rw (c.in_ok-entry.ensures, c.as_str.ensures) at c.in_ok-put_missing-2.ensures;
       statics = c.in_ok-put_list.ensures;
       thunks = c.in_ok-put_list-2.ensures;
       functions = c.in_ok-put_list-3.ensures;

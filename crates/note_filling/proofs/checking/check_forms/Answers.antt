@@ -22,4 +22,5 @@ pub returns-in_err-check_draft-clause-cause : goal.returns-in_err-check_draft-cl
 returns-in_err-check_draft-clause-cause c =
     let p = err_from_is_err_and c.from_residual-in_err-check_draft.result c.from_residual-in_err-check_draft.ensures.1 in
     rw (p.1, p.2) (caused_form _ _ (context_place c.args.context) (table_view c.args.table) (table_view c.in_ok-table.table)
-    (kept_in_place _ _ _ c.in_ok-lists.lists c.in_ok-lists.ensures.kept c.in_ok-table.ensures) c.in_err-check_draft.ensures)
+    (kept_in_place _ c.args.entry.now _ _ c.in_ok-lists.lists c.in_ok-lists.ensures.kept c.in_ok-table.ensures)
+    c.in_err-check_draft.ensures)

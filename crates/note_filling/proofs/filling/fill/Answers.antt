@@ -6,7 +6,7 @@ use Rattle.note_filling.proofs.filling.fill.Goals as goal
 pub returns-clause-kept : goal.returns-clause-kept
 returns-clause-kept c =
     text_kept (context_place c.args.context) (map view c.args.more.points.items) (map view c.args.more.sites.items)
-    (table_view c.args.table)
+    c.args.entry.now (table_view c.args.table)
     (table_view c.in_ok-table.table) c.in_ok-lists.lists c.in_ok-arranged_lists.arranged_lists c.in_ok-lists.ensures.kept
     c.in_ok-arranged_lists.ensures.arranged
     c.in_ok-table.ensures
@@ -14,7 +14,7 @@ returns-clause-kept c =
 pub returns-clause-orders : goal.returns-clause-orders
 returns-clause-orders c =
     orders_of (context_place c.args.context) (map view c.args.more.points.items) (map view c.args.more.sites.items)
-    (table_view c.args.table)
+    c.args.entry.now (table_view c.args.table)
     (table_view c.in_ok-table.table) c.in_ok-lists.lists c.in_ok-arranged_lists.arranged_lists c.in_ok-arranged_lists.orders
     c.in_ok-lists.ensures.kept c.in_ok-arranged_lists.ensures.arranged c.in_ok-arranged_lists.ensures.order c.in_ok-table.ensures
 
@@ -38,8 +38,8 @@ returns-then-not-members_fit-clause-cause c =
       refl,
       record {
         new = new;
-        kept = text_kept place points sites (table_view c.args.table) new c.in_ok-lists.lists c.in_ok-arranged_lists.arranged_lists
-            c.in_ok-lists.ensures.kept c.in_ok-arranged_lists.ensures.arranged c.in_ok-table.ensures;
+        kept = text_kept place points sites c.args.entry.now (table_view c.args.table) new c.in_ok-lists.lists
+            c.in_ok-arranged_lists.arranged_lists c.in_ok-lists.ensures.kept c.in_ok-arranged_lists.ensures.arranged c.in_ok-table.ensures;
         deep = beyond_limit c.members_fit.result (members_depth new) 80 c.members_fit.ensures c.if-not-members_fit.true;
         told = refl;
       },

@@ -1,6 +1,9 @@
 use Rattle.note_filling.proofs.Common.{map, subst, sym, All, Data, view, StoodAmong, Ranked}
 use Rattle.std.proofs.{Common.IsPermutation, lemmas.List.Sorted.All-permutation, lemmas.List.Sorted.IsPermutation-map}
-use Rattle.note_filling.proofs.OrderLaws.{order_by}
+use Rattle.note_filling.proofs.OrderLaws.{order_by, ranks_ascend}
+use Rattle.std.proofs.lemmas.List.Sorted.{IsNonDecreasingBy-from_sort_by_key}
+use Rattle.note_filling.specs.Views.{IsRanked}
+use Rattle.std.proofs.Common.{rules}
 use Rattle.note_filling.proofs.order.by_place.Goals as goal
 
 seen : Ranked → Data
@@ -20,3 +23,11 @@ returns-clause-order c =
     let stood : All (StoodAmong items) sorted =
     All-permutation (StoodAmong items) c.in_ok-all.all.items sorted c.in_ok-sort_by_key.ensures.permutation c.in_ok-all.ensures.stood in
     rw (c.in_ok-parts.ensures.order, c.in_ok-parts.ensures.values) (order_by items sorted stood)
+
+pub returns-clause-ascend : goal.returns-clause-ascend
+returns-clause-ascend c =
+    let sorted = c.sort_by_key.new.self.items in
+    let ranked : All IsRanked sorted =
+    All-permutation IsRanked c.in_ok-all.all.items sorted c.in_ok-sort_by_key.ensures.permutation c.in_ok-all.ensures.ranked in
+    rw (c.in_ok-parts.ensures.values) (ranks_ascend sorted ranked
+    (IsNonDecreasingBy-from_sort_by_key (λ (r : Ranked). r.place) sorted c.in_ok-sort_by_key.ensures.sorted (λ a r q k. search rules)))
