@@ -6,6 +6,7 @@ pub mod WorkAnswers
 pub mod WorkLemmas
 pub mod AnswerLaws
 pub mod VerdictLaws
+pub mod CheckLaws
 pub mod RunLaws
 pub mod InferLaws
 pub mod StopLaws

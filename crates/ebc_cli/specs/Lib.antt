@@ -8,5 +8,6 @@ pub mod Pairings
 pub mod Inferrings
 pub mod Samplings
 pub mod Works
+pub mod Checks
 pub mod Reads
 pub mod Answers

@@ -1,14 +1,22 @@
 -- For proofs: what a reader of the files of a command promises; what is known of work that was read, and what is promised of the reply
--- to it; and what is known of the answer that is then put or written.
+-- to it; what is known of the answer that is then put or written; and what the steps of the check of bytes tell.
 use Rattle.std.specs.Prelude.{⊤, ◌≡◌, ◌↔◌, ◌⊎◌, ℕ, ◌≤◌, List, ◌++◌, length, Option, Some, None, Result, Ok, Err, IfOk}
 use Rattle.ebc_base.specs.declared.memory.NoMemory.{NoMemory}
 use Rattle.ebc_object.specs.Objects.{IsObject}
 use Rattle.ebc_outside.specs.Files.{Files}
 use Rattle.host_model.specs.Scripts.{IsScript}
 use Rattle.note_types.specs.Records.{IsNotes}
+use Rattle.note_types.specs.declared.notes.Notes.{Notes}
+use Rattle.note_types.specs.declared.rule.RuleName.{RuleName}
 use Rattle.pair_model.specs.Binds.{AllAgree}
 use Rattle.pair_model.specs.declared.bind.Bind.{Bind}
+use Rattle.pe_image.specs.Images.{image_of}
 use Rattle.pe_image.specs.Linked.{IsLinked}
+use Rattle.pe_image.specs.declared.image.Image.{Image}
+use Rattle.plain_check.specs.declared.verdict.Verdict.{Verdict}
+use Rattle.plain_check.specs.declared.verdict.Verdict.TheVariants as verdicts
+use Rattle.width_checker.specs.Typed.{Typed}
+use Rattle.width_checker.specs.Verdicts.{IsRefused}
 use Rattle.cli_base.specs.declared.outcome.Outcome.{Outcome}
 use Rattle.cli_base.specs.declared.outcome.Outcome.TheVariants as outcomes
 use Rattle.cli_base.specs.declared.reply.End.{End}
@@ -19,12 +27,15 @@ use Rattle.cli_base.specs.Outcomes.{IsAnswer, IsWorkAnswer}
 use Rattle.cli_base.specs.Outputs.{written_name}
 use Rattle.cli_base.specs.Readings.{AsksPart, FileReading, MissingHasCause}
 use Rattle.file_inputs.specs.Reads.{Reads}
+use Rattle.ebc_cli.specs.declared.checking.Checked.{Checked}
+use Rattle.ebc_cli.specs.declared.checking.Checked.TheVariants as checked
 use Rattle.ebc_cli.specs.declared.command.Command.{Command}
 use Rattle.ebc_cli.specs.declared.command.Command.TheVariants as commands
 use Rattle.ebc_cli.specs.declared.pairing.ReadDriver.{ReadDriver}
 use Rattle.ebc_cli.specs.declared.sampling.BuiltSample.{BuiltSample}
 use Rattle.ebc_cli.specs.declared.work.Work.{Work}
 use Rattle.ebc_cli.specs.declared.work.Work.TheVariants as works
+use Rattle.ebc_cli.specs.Checks.{IsToldAs}
 use Rattle.ebc_cli.specs.Commands.{command_of, output_of}
 use Rattle.ebc_cli.specs.Works.{IsReplyOf, IsReplyTo, plain_code_limit}
 
@@ -122,3 +133,21 @@ pub record AnswersWords (words : List (List ℕ)) (files : Option Files) (before
   pub bad_words : reply.outcome ≡ outcomes.BadWords ↔ command_of words ≡ None
   pub missing : MissingHasCause files before now reply.outcome
   pub output : (written_name reply.output ≡ None) ⊎ (written_name reply.output ≡ output_of (command_of words))
+
+-- ---- the check of bytes
+
+-- what a verdict tells
+abbrev pub checked_of : Verdict → Checked
+checked_of verdicts.Neutral = checked.Neutral
+checked_of (verdicts.Refused place rule) = checked.Refused place rule
+
+-- what is told is a verdict on an image under notes
+pub record TellsCheck (image : Image) (notes : Notes) (x : Checked) : Type 0 where
+  pub verdict : Verdict
+  pub neutral : verdict ≡ verdicts.Neutral ↔ Typed image notes
+  pub refused : (place : ℕ) (rule : RuleName) → verdict ≡ verdicts.Refused place rule ↔ IsRefused image notes place rule
+  pub told : x ≡ checked_of verdict
+
+-- what is told of an image under a text is told exactly, whichever bytes stand for the image
+abbrev pub TellsUnder : Image → List ℕ → Checked → Type 0
+TellsUnder image text x = (bytes : List ℕ) → image_of bytes ≡ Ok image → (wanted : Checked) → x ≡ wanted ↔ IsToldAs bytes text wanted

@@ -1,7 +1,7 @@
 //! The rows: what each line does, and what is printed of it.
 use crate::file::{File, LIMIT, digits_of};
 use crate::tally::Tally;
-use ebc_cli::{Outcome, ebc};
+use ebc_cli::{Checked, Outcome, check_bytes, ebc};
 use ebc_outside::{Folder, MemFolder, MemSink, ReadEnd};
 use std::alloc::{AllocError, Global};
 
@@ -105,6 +105,7 @@ impl Rows {
             "call" => self.call(alloc, rest)?,
             "show" => self.show(alloc, rest)?,
             "parts" => self.parts(alloc, rest)?,
+            "checked" => self.checked(alloc, rest)?,
             _ => return self.other_line(alloc, line),
         };
         self.tally.ask(alloc, line, found)?;
@@ -224,6 +225,23 @@ impl Rows {
         Ok(told)
     }
 
+    // The bytes of a file of the row, none where it isn't there.
+    fn bytes_of(&mut self, alloc: Global, name: &str) -> Result<Vec<u8>, AllocError> {
+        match self.folder.read(alloc, name, LIMIT as u64) {
+            Ok(bytes) => Ok(bytes),
+            Err(ReadEnd::NoMemory) => Err(AllocError),
+            Err(_) => Ok(Vec::new(alloc)),
+        }
+    }
+
+    // What the check of an image under notes tells of the bytes of two files.
+    fn checked(&mut self, alloc: Global, line: &str) -> Result<String, AllocError> {
+        let (image, notes) = line.split_once(' ').unwrap_or((line, ""));
+        let image = self.bytes_of(alloc, image)?;
+        let notes = self.bytes_of(alloc, notes)?;
+        checked_text(alloc, image.as_slice(), notes.as_slice())
+    }
+
     // The bytes of a file in digits, or that it isn't there.
     fn show(&mut self, alloc: Global, name: &str) -> Result<String, AllocError> {
         match self.folder.read(alloc, name, 1048576) {
@@ -235,6 +253,17 @@ impl Rows {
             Err(ReadEnd::Fault) => String::from_str(alloc, "not read\n"),
             Err(ReadEnd::NoMemory) => Err(AllocError),
         }
+    }
+}
+
+// What the check of the bytes of two files tells, on a line.
+fn checked_text(alloc: Global, image: &[u8], notes: &[u8]) -> Result<String, AllocError> {
+    match check_bytes(alloc, image, notes) {
+        Ok(Checked::Neutral) => String::from_str(alloc, "neutral\n"),
+        Ok(Checked::Refused { place, rule }) => format!(in alloc; "refused {place:08x} {rule:?}\n"),
+        Ok(Checked::NoImage { kind, offset }) => format!(in alloc; "no image {kind:?} {offset}\n"),
+        Ok(Checked::NoNotes { fault: _ }) => String::from_str(alloc, "no notes\n"),
+        Err(_) => Err(AllocError),
     }
 }
 
