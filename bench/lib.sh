@@ -32,7 +32,7 @@ program() {
   elif is_current "$1"; then
     echo "$top/crates/$1/out/$1"
   else
-    die "$1 isn't built from these sources; the gate builds it, ./ebc builds ebc, and $named may name another one"
+    die "$1 isn't built from these sources; the gate builds it, bin/ebc builds ebc, and $named may name another one"
   fi
 }
 

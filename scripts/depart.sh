@@ -11,8 +11,8 @@ top=$(realpath -e -- "$(dirname -- "${BASH_SOURCE[0]}")/..") || exit 1
 # shellcheck source=scripts/interpreter.sh
 . "$top/scripts/interpreter.sh"
 has_interpreter || exit 3
-EBC=$(realpath -e -- "${EBC:-$top/ebc}") && EBC_NOTES=$(realpath -e -- "${EBC_NOTES:-$top/ebc_notes}") &&
-  EBC_LINT=$(realpath -e -- "${EBC_LINT:-$top/ebc_lint}") || exit 1
+EBC=$(realpath -e -- "${EBC:-$top/bin/ebc}") && EBC_NOTES=$(realpath -e -- "${EBC_NOTES:-$top/bin/ebc_notes}") &&
+  EBC_LINT=$(realpath -e -- "${EBC_LINT:-$top/bin/ebc_lint}") || exit 1
 room=$(mktemp -d)
 
 # The firmware: what it does in a run stands on standard input, in the order of the run, and each native call and each result is printed.

@@ -47,7 +47,7 @@ case $kind in
     needs openssl /usr/bin/openssl
     needs osslsigncode /usr/bin/osslsigncode
     needs efitools /usr/bin/flash-var
-    [ -x "${EBC:-$top/ebc}" ] || { echo "firmware.sh: EBC names no program: '${EBC:-$top/ebc}'" >&2; absent=1; } ;;
+    [ -x "${EBC:-$top/bin/ebc}" ] || { echo "firmware.sh: EBC names no program: '${EBC:-$top/bin/ebc}'" >&2; absent=1; } ;;
 esac
 [ "$absent" = 0 ] || exit 3
 enter_room

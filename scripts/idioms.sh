@@ -3,10 +3,10 @@
 # a row calls neutral, and to refuse the others as the row says; docs/crates/point_search.md says why.
 #
 # Prints the name of each row that differs, with what is printed of it. Ends with status 1 if there was one. EBC and EBC_NOTES name the
-# programs, by default the scripts at the top. It takes a few seconds.
+# programs, by default the scripts of bin/. It takes a few seconds.
 set -u
 top=$(CDPATH='' cd -- "$(dirname -- "${BASH_SOURCE[0]}")/.." >/dev/null && pwd -P)
-EBC=$(realpath -e -- "${EBC:-$top/ebc}") && EBC_NOTES=$(realpath -e -- "${EBC_NOTES:-$top/ebc_notes}") || exit 1
+EBC=$(realpath -e -- "${EBC:-$top/bin/ebc}") && EBC_NOTES=$(realpath -e -- "${EBC_NOTES:-$top/bin/ebc_notes}") || exit 1
 room=$(mktemp -d) || exit 1
 trap 'rm -rf "$room"' EXIT
 cd "$room" || exit 1

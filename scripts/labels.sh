@@ -3,11 +3,11 @@
 # taken from docs/LABELS.md, docs/NOTES.md and docs/ENCODING.md.
 #
 # Prints the name of each row that differs, and below it the lines that differ: `<` is wanted. Ends with status 1 if there was one. EBC and
-# EBC_NOTES name the programs, by default the scripts at the top. The word `large` asks for the large rows alone, and `all` for all.
+# EBC_NOTES name the programs, by default the scripts of bin/. The word `large` asks for the large rows alone, and `all` for all.
 # Status 6 is tried by .ci/checks, on the program itself.
 set -u
 top=$(CDPATH='' cd -- "$(dirname -- "${BASH_SOURCE[0]}")/.." >/dev/null && pwd -P)
-EBC=$(realpath -e -- "${EBC:-$top/ebc}") && EBC_NOTES=$(realpath -e -- "${EBC_NOTES:-$top/ebc_notes}") || exit 1
+EBC=$(realpath -e -- "${EBC:-$top/bin/ebc}") && EBC_NOTES=$(realpath -e -- "${EBC_NOTES:-$top/bin/ebc_notes}") || exit 1
 room=$(mktemp -d) || exit 1
 trap 'rm -rf "$room"' EXIT
 cd "$room" || exit 1

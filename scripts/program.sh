@@ -1,4 +1,4 @@
-# Builds a program of the repository where that is due, and runs it. Read by the scripts at the top, which are named as their
+# Builds a program of the repository where that is due, and runs it. Read by the scripts of bin/, which are named as their
 # programs and set `usage` to its line, and by those of bench/; all set `top` to the folder of the repository first.
 #
 # A program is current where none of the crates that it is made of, and no line of crates.txt that names one of them, is

@@ -1,6 +1,6 @@
 #!/usr/bin/env bash
 # Makes one archive, for a machine without the kit: the programs as the gate built them, the licence, the pages, the examples, and the
-# scripts that run and sign images. The programs lie at its top, so that the commands of the pages run there. The word is the archive's
+# scripts that run and sign images. The programs lie in bin/, as their scripts do here. The word is the archive's
 # name, which ends with .tar.gz.
 #
 # It runs the gate, .ci/run, over the last commit, in a clone. What the gate passed on this machine is kept, so that takes long only the first time.
@@ -28,9 +28,9 @@ passed=$(grep -E '^[0-9]+ passed, 0 failed' "$room/log" | tail -n 1) || refuse '
 # (in a folder of its own, so that an archive may have any name)
 name=$(basename -- "$archive" .tar.gz)
 whole=$room/archive/$name
-mkdir -p "$whole/scripts" && cp -r LICENSE README.md docs examples "$whole" || exit 1
+mkdir -p "$whole/scripts" "$whole/bin" && cp -r LICENSE README.md docs examples "$whole" || exit 1
 for script in boot disk driver ebc_dxe firmware sign signed; do cp "scripts/$script.sh" "$whole/scripts" || exit 1; done
-for program in ebc ebc_*; do cp "crates/$program/out/$program" "$whole" || refuse "the gate built no $program"; done
+for program in $(git ls-files bin | sed "s,^bin/,,"); do cp "crates/$program/out/$program" "$whole/bin" || refuse "the gate built no $program"; done
 printf '%s\n' "commit $commit" "kit $kit" "gate $passed" >"$whole/RELEASE"
 cd "$whole" && find . -type f ! -name SHA256SUMS -printf '%P\n' | LC_ALL=C sort | xargs -d '\n' sha256sum >SHA256SUMS || exit 1
 tar -C "$room/archive" --sort=name --owner=0 --group=0 --numeric-owner --mtime="@$(git -C "$room/clone" log -1 --format=%ct)" -cf - -- "$name" |

@@ -89,7 +89,7 @@ try_rom() {
 
 try_signed() {
   local width deny start
-  ebc=${EBC:-$top/ebc}
+  ebc=${EBC:-$top/bin/ebc}
   make_keys
   make_images
   try_taken

@@ -3,10 +3,10 @@
 # What a row wants is taken from docs/COMMANDS.md and the pages that its lines name.
 #
 # Prints the name of each row that differs, and below it the lines that differ: `<` is wanted. Ends with status 1 if there was one. EBC
-# names the program, by default the script at the top.
+# names the program, by default the script of bin/.
 set -u
 here=$(CDPATH='' cd -- "$(dirname -- "${BASH_SOURCE[0]}")" >/dev/null && pwd -P)
-EBC=$(realpath -e -- "${EBC:-$here/../ebc}") || exit 1
+EBC=$(realpath -e -- "${EBC:-$here/../bin/ebc}") || exit 1
 room=$(mktemp -d) || exit 1
 trap 'rm -rf "$room"' EXIT
 failed=0

@@ -3,10 +3,10 @@
 # docs/TRACE.md, docs/MACHINE.md, docs/ENCODING.md and docs/HOST.md.
 #
 # Prints the name of each row that differs, and below it the lines that differ: `<` is wanted. Ends with status 1 if there was one. EBC and
-# EBC_TRACE name the programs, by default the scripts at the top.
+# EBC_TRACE name the programs, by default the scripts of bin/.
 set -u
 top=$(CDPATH='' cd -- "$(dirname -- "${BASH_SOURCE[0]}")/.." >/dev/null && pwd -P)
-EBC=$(realpath -e -- "${EBC:-$top/ebc}") && EBC_TRACE=$(realpath -e -- "${EBC_TRACE:-$top/ebc_trace}") || exit 1
+EBC=$(realpath -e -- "${EBC:-$top/bin/ebc}") && EBC_TRACE=$(realpath -e -- "${EBC_TRACE:-$top/bin/ebc_trace}") || exit 1
 room=$(mktemp -d) || exit 1
 trap 'rm -rf "$room"' EXIT
 cd "$room" || exit 1
