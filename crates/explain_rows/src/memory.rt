@@ -81,7 +81,8 @@ fn beside_stack(scene: &Scene, m: Memory) -> Said {
 fn past_line(scene: &Scene, s: &Shape, count: u64, d: Distance) -> Line {
     let mut line = Line::new(scene.alloc);
     let bytes = d.n.saturating_mul(8).saturating_add(d.c);
-    if bytes < i64::from(s.n) * 8 + i64::from(s.c) {
+    let size = (8 * i64::from(s.n)).saturating_add(i64::from(s.c));
+    if bytes < size {
         return line;
     }
     line.text(s.name.as_str())
