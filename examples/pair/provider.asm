@@ -1,9 +1,13 @@
-; A driver that doubles numbers for another one: linked at 10000, its code stands from place 1000.
-.global main
+  .global main
+; 4: .function main() -> status
 main:
-  MOVIqw R7, 0           ; the status of success
+; 5: .return 0
+  MOVIqw R7, 0
   RET
+; 8: .function double(number: n int:0..1000) -> int:0..2000
 double:
-  MOVnw R7, @R0(+0,+16)  ; the number
+; 10: .load R7, number
+  MOVnw R7, @R0(+0,+16)
   ADD64 R7, R7
+; 12: .return
   RET
