@@ -10,3 +10,4 @@ pub mod CheckLaws
 pub mod RunLaws
 pub mod InferLaws
 pub mod StopLaws
+pub mod MissingLaws
