@@ -9,7 +9,8 @@ use Rattle.pe_image.specs.Images.{image_of}
 use Rattle.type_notes.specs.Notes.{notes_of}
 use Rattle.note_types.specs.declared.fault.TomlFault.{TomlFault}
 use Rattle.pe_image.specs.declared.fault.ImageFault.{ImageFault}
-use Rattle.cli_base.specs.{Inputs.bad_image_reply, Inputs.or_reply, Readings.file, Readings.missing_reply}
+use Rattle.cli_base.specs.{Inputs.bad_image_reply, Inputs.or_reply, Readings.file, Readings.large_reply}
+use Rattle.cli_base.specs.Readings.{missing_reply}
 use Rattle.file_inputs.specs.Inputs.{bad_notes_reply}
 use Rattle.file_inputs.specs.Held.{HasFile}
 use Rattle.ebc_cli.specs.{Answers.HasImage, Answers.StopsWith, Works.image_check}
@@ -51,7 +52,7 @@ comes {A = A} limit meaning word name files faults = by_file (get files name) re
     by_size : (bytes : List ℕ) (large : Bool) → get files name ≡ Some bytes → ltb limit (length bytes) ≡ large
         → Comes limit meaning word name files
     by_size bytes true there large =
-        stopped _ (λ w e. cc) (λ none. let no = sym there ∙ none in cc)
+        stopped (large_reply word name) (λ w e. cc) (λ none. let no = sym there ∙ none in cc)
         (λ other x has is. let same : bytes ≡ other = (let both = sym there ∙ has.there in cc) in
         let low = has.fits in let high = ltb-true limit (length bytes) large in cc (same, le-ltb limit (length other) low, large))
         (rw (there, large) refl)
