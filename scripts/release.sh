@@ -28,7 +28,7 @@ passed=$(grep -E '^[0-9]+ passed, 0 failed' "$room/log" | tail -n 1) || refuse '
 # (in a folder of its own, so that an archive may have any name)
 name=$(basename -- "$archive" .tar.gz)
 whole=$room/archive/$name
-mkdir -p "$whole/scripts" "$whole/bin" && cp -r LICENSE README.md docs examples editors "$whole" || exit 1
+mkdir -p "$whole/scripts" "$whole/bin" && cp -r LICENSE README.md docs examples "$whole" || exit 1
 for script in boot disk driver ebc_dxe firmware sign signed; do cp "scripts/$script.sh" "$whole/scripts" || exit 1; done
 for program in $(git ls-files bin | sed "s,^bin/,,"); do cp "crates/$program/out/$program" "$whole/bin" || refuse "the gate built no $program"; done
 printf '%s\n' "commit $commit" "kit $kit" "gate $passed" >"$whole/RELEASE"

@@ -1411,37 +1411,37 @@ end 9 0000101a running
 
 # ---- the example of a driver with a callback (docs/UEFI.md)
 #
-# At width 32 the stack begins at 0x104480, behind 1,095 things, and takes nine times 52 bytes. The image lies at 0x104670 and the system
-# table at 0x107b20. The thunk cell is at 0x2000 in the image, and then come the count of calls and the address of that table.
+# At width 32 the stack begins at 0x1043a0, behind 1,081 things, and takes nine times 60 bytes. The image lies at 0x1045d0 and the system
+# table at 0x107750. The thunk cell is at 0x2000 in the image, and then come the count of calls and the address of that table.
 
 uefi=$top/examples/uefi
-awk -f "$uefi"/numbers.awk "$uefi"/event.labels "$uefi"/event.script "$uefi"/tables.script >event.run
+awk -f "$uefi"/numbers.awk "$uefi"/event.labels "$uefi"/event.script "$uefi"/uefi.script >event.run
 # What is printed but for steps, registers, C, stores and the argument that points to the table of the console.
 event() { edited '/^step\|^  [RCs]\|^  ip\|^  argument 0\|^state/d' "$1" 0 "$2" "$uefi"/event.efi "$uefi"/event.notes event.run "${@:3}"; }
-event 'a native call that a callback asks for' 32 48 48 <<'.'
-  asked 00001114
-  entered tick 00000000001056dc main+0x6c
+event 'a native call that a callback asks for' 32 42 42 <<'.'
+  asked 000010d0
+  entered tick 000000000010562c main+0x5c
   called 1 signal_event
   entered main 0000000000100000 gate
-  bytes 0000000000106670 image+0x2000 50041000........01......207b10..
-end 48 0000111a running
+  bytes 00000000001065d0 image+0x2000 70031000........01......507710..
+end 42 000010d6 running
 .
-event 'a native call under way in a callback' 32 49 49 <<'.'
-  call 00001114 output_string ptr 5 0 ptr 1 0
+event 'a native call under way in a callback' 32 43 43 <<'.'
+  call 000010d0 output_string ptr 5 0 ptr 3 0
   argument 1 "tick\u000d\u000a"
   called 2 output_string
-  entered tick 00000000001056dc main+0x6c
+  entered tick 000000000010562c main+0x5c
   called 1 signal_event
   entered main 0000000000100000 gate
-  bytes 0000000000106670 image+0x2000 50041000........01......207b10..
-end 49 0000111a running
+  bytes 00000000001065d0 image+0x2000 70031000........01......507710..
+end 43 000010d6 running
 .
 edited '/^  argument\|^end\|^status/!d' 'the texts of the native calls, at both' 0 both "$uefi"/event.efi "$uefi"/event.notes event.run \
   1 100000 <<'.'
   argument 1 "tick\u000d\u000a"
   argument 1 "tick\u000d\u000a"
   argument 1 "0000000000000002\u000d\u000a"
-end 521 gate finished status ok 0
+end 482 gate finished status ok 0
 .
 
 # ---- limits and words

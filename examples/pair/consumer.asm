@@ -1,12 +1,9 @@
-  .global main
-; 11: .function main(sys: n ptr:Sys) -> int:0..2000
+; A driver that asks another one to double a number: linked at 10000, its code stands from place 1000.
+.global main
 main:
-; 12: .call sys->double, 21
-  MOVIqw R7, 21
-  PUSHn R7
-  MOVnw R4, @R0(+1,+16)
-  CALL32EXa @R4
-  MOVqw R0, R0(+1,+0)
-  MOVnw R7, R7
-; 13: .return
-  RET
+  MOVIqw R4, 21          ; the number
+  PUSHn R4
+  MOVnw R5, @R0(+1,+16)  ; the table of methods
+  CALL32EXa @R5          ; Double
+  MOVqw R0, R0(+1,+0)    ; drops the argument
+  RET                    ; what Double gave

@@ -1,13 +1,9 @@
-  .global main
-; 4: .function main() -> status
+; A driver that doubles numbers for another one: linked at 10000, its code stands from place 1000.
+.global main
 main:
-; 5: .return 0
-  MOVIqw R7, 0
+  MOVIqw R7, 0           ; the status of success
   RET
-; 8: .function double(number: n int:0..1000) -> int:0..2000
 double:
-; 10: .load R7, number
-  MOVnw R7, @R0(+0,+16)
+  MOVnw R7, @R0(+0,+16)  ; the number
   ADD64 R7, R7
-; 12: .return
   RET

@@ -1,157 +1,102 @@
-  .global main
-; 12: .function main(image: n handle, table: n ptr:SystemTable) -> status
+; Makes an event with a notification function, signals it twice, and prints how often the firmware entered the function.
+.global main
 main:
-  MOVqw R0, R0(-1,-0)
-; 14: .thunks
   MOVRELd R7, cell
-  BREAK 5
-; 15: .store context->table, table
-  MOVnw R7, @R0(+2,+16)
+  BREAK 5                 ; makes the thunk of tick
+  PUSH64 R1
+  MOVnw R1, @R0(+1,+24)   ; the system table
   MOVRELd R4, context
-  MOVnw @R4(+1,+0), R7
-; 16: .call table->boot_services->create_event, EVT_NOTIFY_SIGNAL, TPL_CALLBACK, cell, &context, &event
-  MOVqw R7, R0
-  PUSHn R7
-  MOVRELd R7, context
-  PUSHn R7
-  MOVRELd R7, cell
-  MOVnw R7, @R7
-  PUSHn R7
-  MOVIqw R7, 8
-  PUSHn R7
-  MOVIqw R7, 512
-  PUSHn R7
-  MOVnw R4, @R0(+7,+16)
-  MOVnw R4, @R4(+9,+24)
-  CALL32EXa @R4(+7,+24)
+  MOVnw @R4(+1,+0), R1    ; for tick
+  MOVqw R0, R0(-1,-0)     ; makes room for the locals: event
+  MOVqw R5, R0
+  PUSHn R5                ; Event
+  PUSHn R4                ; NotifyContext
+  MOVRELd R4, cell
+  PUSHn @R4               ; NotifyFunction
+  MOVIqw R4, 8
+  PUSHn R4                ; NotifyTpl: TPL_CALLBACK
+  MOVIqw R4, 512
+  PUSHn R4                ; Type: EVT_NOTIFY_SIGNAL
+  MOVnw R4, @R1(+9,+24)   ; BootServices
+  CALL32EXa @R4(+7,+24)   ; CreateEvent
   MOVqw R0, R0(+5,+0)
   MOVnw R7, R7
-; 17: .if R7 != 0, failed
   CMPI64weq R7, 0
-  JMP32cc main.failed
-; 18: .call table->boot_services->signal_event, event
-  MOVnw R7, @R0
-  PUSHn R7
-  MOVnw R4, @R0(+3,+16)
-  MOVnw R4, @R4(+9,+24)
-  CALL32EXa @R4(+10,+24)
+  JMP32cc failed
+  PUSHn @R0               ; Event
+  MOVnw R4, @R1(+9,+24)
+  CALL32EXa @R4(+10,+24)  ; SignalEvent
+  MOVnw R4, @R1(+9,+24)
+  CALL32EXa @R4(+10,+24)  ; SignalEvent
+  MOVnw R4, @R1(+9,+24)
+  CALL32EXa @R4(+11,+24)  ; CloseEvent
   MOVqw R0, R0(+1,+0)
-  MOVnw R7, R7
-; 19: .call table->boot_services->signal_event, event
-  MOVnw R7, @R0
-  PUSHn R7
-  MOVnw R4, @R0(+3,+16)
-  MOVnw R4, @R4(+9,+24)
-  CALL32EXa @R4(+10,+24)
-  MOVqw R0, R0(+1,+0)
-  MOVnw R7, R7
-; 20: .call table->boot_services->close_event, event
-  MOVnw R7, @R0
-  PUSHn R7
-  MOVnw R4, @R0(+3,+16)
-  MOVnw R4, @R4(+9,+24)
-  CALL32EXa @R4(+11,+24)
-  MOVqw R0, R0(+1,+0)
-  MOVnw R7, R7
-; 21: .load R5, context->ticks
-  MOVRELd R5, context
-  MOVnw R5, @R5
-; 22: .call hex, R5
+  MOVRELd R4, context
+  MOVnw R5, @R4           ; ticks
   PUSH64 R5
   CALL32 hex
   MOVqw R0, R0(+0,+8)
-; 23: .call table->con_out->output_string, table->con_out, &digits
-  MOVRELd R7, digits
-  PUSHn R7
-  MOVnw R7, @R0(+3,+16)
-  MOVnw R7, @R7(+5,+24)
-  PUSHn R7
-  MOVnw R4, @R0(+4,+16)
-  MOVnw R4, @R4(+5,+24)
-  CALL32EXa @R4(+1,+0)
+  MOVRELd R6, digits
+  MOVnw R5, @R1(+5,+24)   ; ConOut
+  PUSHn R6
+  PUSHn R5
+  CALL32EXa @R5(+1,+0)    ; OutputString
   MOVqw R0, R0(+2,+0)
   MOVnw R7, R7
-main.failed:
-; 25: .return
+failed:
   MOVqw R0, R0(+1,+0)
+  POP64 R1
   RET
-; 27: .function tick EventNotify(event: n handle, mine: n ptr:Context)
-tick:
-; 28: .load R5, mine->ticks
-  MOVnw R5, @R0(+1,+16)
-  MOVnw R5, @R5
+tick:                     ; VOID tick (EFI_EVENT Event, VOID *Context)
+  MOVnw R4, @R0(+1,+16)   ; the context
+  MOVnw R5, @R4           ; ticks
   MOVIqw R6, 1
   ADD32 R5, R6
-; 31: .store mine->ticks, R5
-  MOVnw R4, @R0(+1,+16)
   MOVnw @R4, R5
-; 32: .load R5, mine->table
-  MOVnw R5, @R0(+1,+16)
-  MOVnw R5, @R5(+1,+0)
-; 33: .if R5 == 0, quiet
+  MOVnw R5, @R4(+1,+0)    ; the system table
   CMPI64weq R5, 0
-  JMP32cs tick.quiet
-; 34: .load R5, R5:SystemTable->con_out
-  MOVnw R5, @R5(+5,+24)
-; 35: .call R5:TextOutput->output_string, R5, &line
-  MOVRELd R7, line
-  PUSHn R7
+  JMP8cs quiet
+  MOVnw R5, @R5(+5,+24)   ; ConOut
+  MOVRELd R6, line
+  PUSHn R6
   PUSHn R5
-  CALL32EXa @R5(+1,+0)
+  CALL32EXa @R5(+1,+0)    ; OutputString
   MOVqw R0, R0(+2,+0)
-  MOVnw R7, R7
-tick.quiet:
-; 37: .return
+quiet:
   RET
-.data
-cell: .thunk tick
-; 40: context: .zeros Context
-context: .zero 16
-; 41: line: .string "tick\r\n"
-line: .dw 116, 105, 99, 107, 13, 10, 0
-.code
-; 2: .function hex(number: q int)
-hex:
-  MOVIqw R4, 0
-hex.next:
-; 5: .if R4 >= 16, done
+hex:                      ; the digits of a number of 64 bits, into `digits`
+  MOVIqw R4, 0            ; how many are there
+digit:
   CMPI64wugte R4, 16
-  JMP32cs hex.done
+  JMP8cs written
   MOVqw R6, R4
   MOVIqw R7, 4
   MULU64 R6, R7
   MOVIqw R7, 60
-  SUB64 R7, R6
-; 11: .load R6, number
-  MOVqw R6, @R0(+0,+16)
+  SUB64 R7, R6            ; the digit's bits begin here
+  MOVqw R6, @R0(+0,+16)   ; the number
   SHR64 R6, R7
   MOVIqw R7, 15
   AND64 R6, R7
-; 15: .element R5, alphabet, R6
-  MOVqw R7, R6
-  MOVInw R5, (+0,+2)
-  MULU64 R7, R5
+  MOVIqw R5, 2
+  MULU64 R6, R5
   MOVRELd R5, alphabet
-  ADD64 R5, R7
-; 16: .load R6, R5:Char16->unit
-  MOVww R6, @R5
-; 17: .element R5, digits, R4
+  ADD64 R5, R6
+  MOVww R6, @R5           ; the digit
   MOVqw R7, R4
-  MOVInw R5, (+0,+2)
+  MOVIqw R5, 2
   MULU64 R7, R5
   MOVRELd R5, digits
   ADD64 R5, R7
-; 18: .store R5:Char16->unit, R6
   MOVww @R5, R6
   MOVqw R4, R4(+0,+1)
-  JMP8 hex.next
-hex.done:
-; 22: .return
+  JMP8 digit
+written:
   RET
 .data
-; 25: digits: .string "0000000000000000\r\n"
-digits: .dw 48, 48, 48, 48, 48, 48, 48, 48, 48, 48, 48, 48, 48, 48, 48, 48
-  .dw 13, 10, 0
-; 24: alphabet: .string "0123456789abcdef"
-alphabet: .dw 48, 49, 50, 51, 52, 53, 54, 55, 56, 57, 97, 98, 99, 100, 101, 102
-  .dw 0
+cell: .thunk tick
+context: .zero 16         ; ticks and the system table, two natural units
+alphabet: .dw 48, 49, 50, 51, 52, 53, 54, 55, 56, 57, 97, 98, 99, 100, 101, 102  ; 0 to f
+digits: .dw 48, 48, 48, 48, 48, 48, 48, 48, 48, 48, 48, 48  ; '0000000000000000\n'
+  .dw 48, 48, 48, 48, 13, 10, 0
+line: .dw 116, 105, 99, 107, 13, 10, 0  ; 'tick\n'

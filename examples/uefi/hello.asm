@@ -1,20 +1,15 @@
-  .global main
-; 5: .function main(image: n handle, table: n ptr:SystemTable) -> status
+; Prints a line through the firmware's console.
+.global main
 main:
-; 6: .call table->con_out->output_string, table->con_out, &line
-  MOVRELd R7, line
-  PUSHn R7
-  MOVnw R7, @R0(+2,+16)
-  MOVnw R7, @R7(+5,+24)
-  PUSHn R7
-  MOVnw R4, @R0(+3,+16)
-  MOVnw R4, @R4(+5,+24)
-  CALL32EXa @R4(+1,+0)
-  MOVqw R0, R0(+2,+0)
-  MOVnw R7, R7
-; 7: .return
+  MOVnw R4, @R0(+1,+16)   ; the system table, the second argument
+  MOVnw R5, @R4(+5,+24)   ; its ConOut
+  MOVRELd R6, line
+  PUSHn R6                ; String
+  PUSHn R5                ; This
+  CALL32EXa @R5(+1,+0)    ; OutputString
+  MOVqw R0, R0(+2,+0)     ; drops both arguments
+  MOVnw R7, R7            ; as many bytes of the status as a pointer has
   RET
 .data
-; 9: line: .string "Hello from ebc\r\n"
-line: .dw 72, 101, 108, 108, 111, 32, 102, 114, 111, 109, 32, 101, 98, 99, 13, 10
-  .dw 0
+line: .dw 72, 101, 108, 108, 111, 32, 102, 114, 111, 109, 32, 101  ; 'Hello from ebc\n'
+  .dw 98, 99, 13, 10, 0

@@ -1,143 +1,107 @@
-  .global main
-; 16: .function main(image: n handle, table: n ptr:SystemTable) -> status
+; Links four records of the firmware's memory and prints what their numbers come to.
+.global main
 main:
-  MOVqw R0, R0(-2,-0)
-; 19: .call table->boot_services->allocate_pool, EfiLoaderData, sizeof(Record*4), &records
-  MOVqw R7, R0
-  PUSHn R7
-  MOVInw R7, (+16,+0)
-  PUSHn R7
-  MOVIqw R7, 2
-  PUSHn R7
-  MOVnw R4, @R0(+6,+16)
-  MOVnw R4, @R4(+9,+24)
-  CALL32EXa @R4(+5,+24)
+  PUSH64 R1
+  MOVnw R1, @R0(+1,+24)   ; the system table
+  MOVqw R0, R0(-2,-0)     ; makes room for the locals: records, last
+  MOVqw R5, R0            ; the address of `records`
+  PUSHn R5                ; Buffer
+  MOVInw R4, (+16,+0)     ; four records of four natural units
+  PUSHn R4                ; Size
+  MOVIqw R4, 2
+  PUSHn R4                ; PoolType: EfiLoaderData
+  MOVnw R4, @R1(+9,+24)   ; BootServices
+  CALL32EXa @R4(+5,+24)   ; AllocatePool
   MOVqw R0, R0(+3,+0)
   MOVnw R7, R7
-; 20: .if R7 != 0, failed
   CMPI64weq R7, 0
-  JMP32cc main.failed
-; 21: .store last, 0
+  JMP8cc failed
   MOVIqw R7, 0
-  MOVnw @R0(+1,+0), R7
-  MOVIqw R5, 0
-main.fill:
-; 24: .if R5 >= 4, filled
+  MOVnw @R0(+1,+0), R7    ; no record is the last yet
+  MOVIqw R5, 0            ; how many are filled
+fill:
   CMPI64wugte R5, 4
-  JMP32cs main.filled
-; 25: .element R4, records, R5
-  MOVqw R7, R5
-  MOVInw R4, (+4,+0)
-  MULU64 R7, R4
-  MOVnw R4, @R0
-  ADD64 R4, R7
+  JMP8cs filled
+  MOVqw R6, R5
+  MOVInw R4, (+4,+0)      ; a record's size
+  MUL64 R6, R4
+  MOVnw R4, @R0           ; the records
+  ADD64 R4, R6            ; this one
   MOVqw R6, R5
   MOVIqw R7, 3
   MULU64 R6, R7
-  MOVqw R6, R6(+0,+1)
-; 30: .store R4:Record->id, R6
-  MOVdw @R4, R6
-; 31: .store R4:Record->flag, R5
-  MOVbw @R4(+2,+0), R5
-; 32: .store R4:Record->size, R6
-  MOVnw @R4(+3,+0), R6
-; 33: .store R4:Record->next, last
+  MOVqw R6, R6(+0,+1)     ; its number: 1, 4, 7, 10
+  MOVdw @R4, R6           ; id, 4 bytes
+  MOVbw @R4(+2,+0), R5    ; flag, a byte
+  MOVnw @R4(+3,+0), R6    ; size, natural
   MOVnw R7, @R0(+1,+0)
-  MOVnw @R4(+1,+0), R7
-; 34: .store last, R4
+  MOVnw @R4(+1,+0), R7    ; next: the one before
   MOVnw @R0(+1,+0), R4
   MOVqw R5, R5(+0,+1)
-  JMP8 main.fill
-main.filled:
-  MOVIqw R5, 0
-; 39: .load R4, last
+  JMP8 fill
+filled:
+  MOVIqw R5, 0            ; the sum
   MOVnw R4, @R0(+1,+0)
-main.walk:
-; 41: .if R4 == 0, walked
+walk:
   CMPI64weq R4, 0
-  JMP32cs main.walked
-; 42: .load R6, R4:Record->id
+  JMP8cs walked
   MOVdw R6, @R4
-; 43: .load R7, R4:Record->size
   MOVnw R7, @R4(+3,+0)
   MULU64 R6, R7
-  ADD64 R5, R6
-; 46: .load R6, R4:Record->flag
+  ADD64 R5, R6            ; id by size
   MOVbw R6, @R4(+2,+0)
-  ADD64 R5, R6
-; 48: .load R4, R4:Record->next
+  ADD64 R5, R6            ; and flag
   MOVnw R4, @R4(+1,+0)
-  JMP8 main.walk
-main.walked:
-; 51: .call hex, R5
+  JMP8 walk
+walked:
   PUSH64 R5
   CALL32 hex
   MOVqw R0, R0(+0,+8)
-; 52: .call table->con_out->output_string, table->con_out, &digits
-  MOVRELd R7, digits
-  PUSHn R7
-  MOVnw R7, @R0(+4,+16)
-  MOVnw R7, @R7(+5,+24)
-  PUSHn R7
-  MOVnw R4, @R0(+5,+16)
-  MOVnw R4, @R4(+5,+24)
-  CALL32EXa @R4(+1,+0)
+  MOVRELd R6, digits
+  MOVnw R5, @R1(+5,+24)   ; ConOut
+  PUSHn R6
+  PUSHn R5
+  CALL32EXa @R5(+1,+0)    ; OutputString
   MOVqw R0, R0(+2,+0)
-  MOVnw R7, R7
-; 53: .call table->boot_services->free_pool, records
-  MOVnw R7, @R0
-  PUSHn R7
-  MOVnw R4, @R0(+4,+16)
-  MOVnw R4, @R4(+9,+24)
-  CALL32EXa @R4(+6,+24)
+  PUSHn @R0               ; Buffer
+  MOVnw R4, @R1(+9,+24)
+  CALL32EXa @R4(+6,+24)   ; FreePool
   MOVqw R0, R0(+1,+0)
   MOVnw R7, R7
-main.failed:
-; 55: .return
+failed:
   MOVqw R0, R0(+2,+0)
+  POP64 R1
   RET
-; 2: .function hex(number: q int)
-hex:
-  MOVIqw R4, 0
-hex.next:
-; 5: .if R4 >= 16, done
+hex:                      ; the digits of a number of 64 bits, into `digits`
+  MOVIqw R4, 0            ; how many are there
+digit:
   CMPI64wugte R4, 16
-  JMP32cs hex.done
+  JMP8cs written
   MOVqw R6, R4
   MOVIqw R7, 4
   MULU64 R6, R7
   MOVIqw R7, 60
-  SUB64 R7, R6
-; 11: .load R6, number
-  MOVqw R6, @R0(+0,+16)
+  SUB64 R7, R6            ; the digit's bits begin here
+  MOVqw R6, @R0(+0,+16)   ; the number
   SHR64 R6, R7
   MOVIqw R7, 15
   AND64 R6, R7
-; 15: .element R5, alphabet, R6
-  MOVqw R7, R6
-  MOVInw R5, (+0,+2)
-  MULU64 R7, R5
+  MOVIqw R5, 2
+  MULU64 R6, R5
   MOVRELd R5, alphabet
-  ADD64 R5, R7
-; 16: .load R6, R5:Char16->unit
-  MOVww R6, @R5
-; 17: .element R5, digits, R4
+  ADD64 R5, R6
+  MOVww R6, @R5           ; the digit
   MOVqw R7, R4
-  MOVInw R5, (+0,+2)
+  MOVIqw R5, 2
   MULU64 R7, R5
   MOVRELd R5, digits
   ADD64 R5, R7
-; 18: .store R5:Char16->unit, R6
   MOVww @R5, R6
   MOVqw R4, R4(+0,+1)
-  JMP8 hex.next
-hex.done:
-; 22: .return
+  JMP8 digit
+written:
   RET
 .data
-; 25: digits: .string "0000000000000000\r\n"
-digits: .dw 48, 48, 48, 48, 48, 48, 48, 48, 48, 48, 48, 48, 48, 48, 48, 48
-  .dw 13, 10, 0
-; 24: alphabet: .string "0123456789abcdef"
-alphabet: .dw 48, 49, 50, 51, 52, 53, 54, 55, 56, 57, 97, 98, 99, 100, 101, 102
-  .dw 0
+alphabet: .dw 48, 49, 50, 51, 52, 53, 54, 55, 56, 57, 97, 98, 99, 100, 101, 102  ; 0 to f
+digits: .dw 48, 48, 48, 48, 48, 48, 48, 48, 48, 48, 48, 48  ; '0000000000000000\n'
+  .dw 48, 48, 48, 48, 13, 10, 0

@@ -1,48 +1,38 @@
-  .global main
-; 10: .function main(image: n handle, table: n ptr:SystemTable) -> status
+; Prints the lines of a table, one after the other.
+.global main
 main:
   PUSH64 R1
-  MOVIqw R1, 0
-main.next:
-; 14: .if R1 >= 3, done
-  CMPI64wugte R1, 3
-  JMP32cs main.done
-; 15: .element R6, lines, R1
-  MOVqw R7, R1
-  MOVInw R6, (+0,+8)
-  MULU64 R7, R6
-  MOVRELd R6, lines
-  ADD64 R6, R7
-; 16: .call table->con_out->output_string, table->con_out, R6:Row->line
-  MOVqw R7, @R6
-  PUSHn R7
-  MOVnw R7, @R0(+2,+24)
-  MOVnw R7, @R7(+5,+24)
-  PUSHn R7
-  MOVnw R4, @R0(+3,+24)
-  MOVnw R4, @R4(+5,+24)
-  CALL32EXa @R4(+1,+0)
+  PUSH64 R2
+  MOVnw R1, @R0(+1,+32)   ; the system table
+  MOVIqw R2, 0            ; how many lines are printed
+next:
+  CMPI64wugte R2, 3
+  JMP8cs done
+  MOVqw R6, R2
+  MOVIqw R4, 8
+  MULU64 R6, R4           ; how far into the table
+  MOVRELd R5, table
+  ADD64 R5, R6
+  MOVqw R6, @R5           ; the line
+  MOVnw R5, @R1(+5,+24)   ; ConOut
+  PUSHn R6
+  PUSHn R5
+  CALL32EXa @R5(+1,+0)    ; OutputString
   MOVqw R0, R0(+2,+0)
-  MOVnw R7, R7
-  MOVqw R1, R1(+0,+1)
-  JMP8 main.next
-main.done:
-; 20: .return 0
-  MOVIqw R7, 0
+  MOVqw R2, R2(+0,+1)
+  JMP8 next
+done:
+  POP64 R2
   POP64 R1
+  MOVIqw R7, 0
   RET
 .data
-; 22: lines: .static Row
-lines:
-  .dq first
+table: .dq first
   .dq second
   .dq third
-; 26: first: .string "the first line\r\n"
-first: .dw 116, 104, 101, 32, 102, 105, 114, 115, 116, 32, 108, 105, 110, 101, 13, 10
-  .dw 0
-; 27: second: .string "the second line\r\n"
-second: .dw 116, 104, 101, 32, 115, 101, 99, 111, 110, 100, 32, 108, 105, 110, 101, 13
-  .dw 10, 0
-; 28: third: .string "the third line\r\n"
-third: .dw 116, 104, 101, 32, 116, 104, 105, 114, 100, 32, 108, 105, 110, 101, 13, 10
-  .dw 0
+first: .dw 116, 104, 101, 32, 102, 105, 114, 115, 116, 32, 108, 105  ; 'the first line\n'
+  .dw 110, 101, 13, 10, 0
+second: .dw 116, 104, 101, 32, 115, 101, 99, 111, 110, 100, 32, 108  ; 'the second line\n'
+  .dw 105, 110, 101, 13, 10, 0
+third: .dw 116, 104, 101, 32, 116, 104, 105, 114, 100, 32, 108, 105  ; 'the third line\n'
+  .dw 110, 101, 13, 10, 0

@@ -1,205 +1,147 @@
-  .global main
-; 9: .function main(image: n handle, table: n ptr:SystemTable) -> status
+; Asks the firmware for what has numbers of 64 bits or a list of arguments of any length: a page, a timer, a protocol of its own.
+.global main
 main:
   PUSH64 R1
-  MOVqw R0, R0(-2,-16)
-; 15: .call table->boot_services->allocate_pages, AllocateAnyPages, EfiLoaderData, 1, &page
-  MOVqw R7, R0
-  PUSHn R7
-  MOVIqw R7, 1
-  PUSHn R7
-  MOVIqw R7, 2
-  PUSHn R7
-  MOVIqw R7, 0
-  PUSHn R7
-  MOVnw R4, @R0(+7,+40)
-  MOVnw R4, @R4(+9,+24)
-  CALL32EXa @R4(+2,+24)
+  MOVnw R1, @R0(+1,+24)   ; the system table
+  MOVqw R0, R0(-3,-8)     ; makes room for the locals: page, event, index, handle
+
+  MOVqw R5, R0
+  PUSHn R5                ; Memory: EFI_PHYSICAL_ADDRESS *, 64 bits at both widths
+  MOVIqw R4, 1
+  PUSHn R4                ; Pages
+  MOVIqw R4, 2
+  PUSHn R4                ; MemoryType: EfiLoaderData
+  MOVIqw R4, 0
+  PUSHn R4                ; Type: AllocateAnyPages
+  MOVnw R4, @R1(+9,+24)
+  CALL32EXa @R4(+2,+24)   ; AllocatePages
   MOVqw R0, R0(+4,+0)
   MOVnw R7, R7
-; 16: .if R7 != 0, failed
   CMPI64weq R7, 0
-  JMP32cc main.failed
-; 17: .element R5, page, 4088
-  MOVIqw R7, 4088
-  MOVInw R5, (+0,+1)
-  MULU64 R7, R5
-  MOVqw R5, @R0
-  ADD64 R5, R7
-; 18: .store R5:Byte->value, 77
-  MOVIqw R7, 77
-  MOVbw @R5, R7
-; 19: .call table->boot_services->free_pages, page, 1
-  MOVIqw R7, 1
-  PUSHn R7
-  MOVqw R7, @R0(+1,+0)
-  PUSH64 R7
-  MOVnw R4, @R0(+4,+48)
-  MOVnw R4, @R4(+9,+24)
-  CALL32EXa @R4(+3,+24)
+  JMP32cc failed
+  MOVqw R5, @R0           ; the page
+  MOVIqw R6, 4088
+  ADD64 R5, R6
+  MOVIqw R4, 77
+  MOVbw @R5, R4           ; a byte near its end
+  MOVIqw R4, 1
+  PUSHn R4                ; Pages
+  PUSH64 @R0(+1,+0)       ; Memory: EFI_PHYSICAL_ADDRESS, by value
+  MOVnw R4, @R1(+9,+24)
+  CALL32EXa @R4(+3,+24)   ; FreePages
   MOVqw R0, R0(+1,+8)
   MOVnw R7, R7
-; 20: .if R7 != 0, failed
   CMPI64weq R7, 0
-  JMP32cc main.failed
-; 21: .call table->con_out->output_string, table->con_out, &pages
-  MOVRELd R7, pages
-  PUSHn R7
-  MOVnw R7, @R0(+4,+40)
-  MOVnw R7, @R7(+5,+24)
-  PUSHn R7
-  MOVnw R4, @R0(+5,+40)
-  MOVnw R4, @R4(+5,+24)
-  CALL32EXa @R4(+1,+0)
+  JMP32cc failed
+  MOVnw R5, @R1(+5,+24)
+  MOVRELd R6, pages
+  PUSHn R6
+  PUSHn R5
+  CALL32EXa @R5(+1,+0)
   MOVqw R0, R0(+2,+0)
-  MOVnw R7, R7
-; 23: .call table->boot_services->create_event, EVT_TIMER, 0, 0, 0, &event
-  MOVqw R7, R0(+0,+8)
-  PUSHn R7
-  MOVIqw R7, 0
-  PUSHn R7
-  MOVIqw R7, 0
-  PUSHn R7
-  MOVIqw R7, 0
-  PUSHn R7
-  MOVIqq R7, 2147483648
-  PUSHn R7
-  MOVnw R4, @R0(+8,+40)
-  MOVnw R4, @R4(+9,+24)
-  CALL32EXa @R4(+7,+24)
+
+  MOVqw R5, R0(+0,+8)
+  PUSHn R5                ; Event
+  MOVIqw R4, 0
+  PUSHn R4                ; NotifyContext
+  PUSHn R4                ; NotifyFunction
+  PUSHn R4                ; NotifyTpl
+  MOVIqq R4, 0x80000000
+  PUSHn R4                ; Type: EVT_TIMER
+  MOVnw R4, @R1(+9,+24)
+  CALL32EXa @R4(+7,+24)   ; CreateEvent
   MOVqw R0, R0(+5,+0)
   MOVnw R7, R7
-; 24: .if R7 != 0, failed
   CMPI64weq R7, 0
-  JMP32cc main.failed
-; 25: .call table->boot_services->set_timer, event, TimerRelative, 100000
-  MOVIqd R7, 100000
-  PUSH64 R7
-  MOVIqw R7, 2
-  PUSHn R7
-  MOVnw R7, @R0(+1,+16)
-  PUSHn R7
-  MOVnw R4, @R0(+5,+48)
-  MOVnw R4, @R4(+9,+24)
-  CALL32EXa @R4(+8,+24)
+  JMP32cc failed
+  MOVIqd R4, 100000
+  PUSH64 R4               ; TriggerTime: UINT64, in 100 ns
+  MOVIqw R4, 1
+  PUSHn R4                ; Type: TimerRelative
+  PUSHn @R0(+1,+16)       ; Event
+  MOVnw R4, @R1(+9,+24)
+  CALL32EXa @R4(+8,+24)   ; SetTimer
   MOVqw R0, R0(+2,+8)
   MOVnw R7, R7
-; 26: .if R7 != 0, timer_failed
   CMPI64weq R7, 0
-  JMP32cc main.timer_failed
-; 27: .call table->boot_services->wait_for_event, 1, &event, &index
-  MOVqw R7, R0(+1,+8)
-  PUSHn R7
-  MOVqw R7, R0(+1,+8)
-  PUSHn R7
-  MOVIqw R7, 1
-  PUSHn R7
-  MOVnw R4, @R0(+6,+40)
-  MOVnw R4, @R4(+9,+24)
-  CALL32EXa @R4(+9,+24)
+  JMP32cc timer_failed
+  MOVqw R5, R0(+1,+8)
+  PUSHn R5                ; Index
+  MOVqw R5, R0(+1,+8)     ; the address of `event`, one slot further
+  PUSHn R5                ; Event
+  MOVIqw R4, 1
+  PUSHn R4                ; NumberOfEvents
+  MOVnw R4, @R1(+9,+24)
+  CALL32EXa @R4(+9,+24)   ; WaitForEvent
   MOVqw R0, R0(+3,+0)
   MOVnw R7, R7
-; 28: .if R7 != 0, timer_failed
   CMPI64weq R7, 0
-  JMP32cc main.timer_failed
-; 29: .call table->boot_services->close_event, event
-  MOVnw R7, @R0(+0,+8)
-  PUSHn R7
-  MOVnw R4, @R0(+4,+40)
-  MOVnw R4, @R4(+9,+24)
-  CALL32EXa @R4(+11,+24)
+  JMP32cc timer_failed
+  PUSHn @R0(+0,+8)        ; Event
+  MOVnw R4, @R1(+9,+24)
+  CALL32EXa @R4(+11,+24)  ; CloseEvent
   MOVqw R0, R0(+1,+0)
   MOVnw R7, R7
-; 30: .if R7 != 0, failed
   CMPI64weq R7, 0
-  JMP32cc main.failed
-; 31: .call table->con_out->output_string, table->con_out, &timer
-  MOVRELd R7, timer
-  PUSHn R7
-  MOVnw R7, @R0(+4,+40)
-  MOVnw R7, @R7(+5,+24)
-  PUSHn R7
-  MOVnw R4, @R0(+5,+40)
-  MOVnw R4, @R4(+5,+24)
-  CALL32EXa @R4(+1,+0)
+  JMP32cc failed
+  MOVnw R5, @R1(+5,+24)
+  MOVRELd R6, timer
+  PUSHn R6
+  PUSHn R5
+  CALL32EXa @R5(+1,+0)
   MOVqw R0, R0(+2,+0)
-  MOVnw R7, R7
-; 33: .store handle, 0
-  MOVIqw R7, 0
-  MOVnw @R0(+2,+8), R7
-; 34: .call table->boot_services->install_multiple_protocol_interfaces, &handle, &guid, &pages, 0
-  MOVIqw R7, 0
-  PUSHn R7
-  MOVRELd R7, pages
-  PUSHn R7
-  MOVRELd R7, guid
-  PUSHn R7
-  MOVqw R7, R0(+5,+8)
-  PUSHn R7
-  MOVnw R4, @R0(+7,+40)
-  MOVnw R4, @R4(+9,+24)
-  CALL32EXa @R4(+38,+24)
+
+  MOVIqw R4, 0
+  MOVnw @R0(+2,+8), R4    ; no handle yet
+  PUSHn R4                ; the end of the list
+  MOVRELd R5, pages
+  PUSHn R5                ; an interface
+  MOVRELd R6, guid
+  PUSHn R6                ; and its GUID
+  MOVqw R5, R0(+5,+8)
+  PUSHn R5                ; Handle
+  MOVnw R4, @R1(+9,+24)
+  CALL32EXa @R4(+38,+24)  ; InstallMultipleProtocolInterfaces
   MOVqw R0, R0(+4,+0)
   MOVnw R7, R7
-; 35: .if R7 != 0, failed
   CMPI64weq R7, 0
-  JMP32cc main.failed
-; 36: .call table->boot_services->uninstall_multiple_protocol_interfaces, handle, &guid, &pages, 0
-  MOVIqw R7, 0
-  PUSHn R7
-  MOVRELd R7, pages
-  PUSHn R7
-  MOVRELd R7, guid
-  PUSHn R7
-  MOVnw R7, @R0(+5,+8)
-  PUSHn R7
-  MOVnw R4, @R0(+7,+40)
-  MOVnw R4, @R4(+9,+24)
-  CALL32EXa @R4(+39,+24)
+  JMP32cc failed
+  MOVIqw R4, 0
+  PUSHn R4
+  MOVRELd R5, pages
+  PUSHn R5
+  MOVRELd R6, guid
+  PUSHn R6
+  PUSHn @R0(+5,+8)        ; Handle
+  MOVnw R4, @R1(+9,+24)
+  CALL32EXa @R4(+39,+24)  ; UninstallMultipleProtocolInterfaces
   MOVqw R0, R0(+4,+0)
   MOVnw R7, R7
-; 37: .if R7 != 0, failed
   CMPI64weq R7, 0
-  JMP32cc main.failed
-; 38: .call table->con_out->output_string, table->con_out, &protocols
-  MOVRELd R7, protocols
-  PUSHn R7
-  MOVnw R7, @R0(+4,+40)
-  MOVnw R7, @R7(+5,+24)
-  PUSHn R7
-  MOVnw R4, @R0(+5,+40)
-  MOVnw R4, @R4(+5,+24)
-  CALL32EXa @R4(+1,+0)
+  JMP32cc failed
+  MOVnw R5, @R1(+5,+24)
+  MOVRELd R6, protocols
+  PUSHn R6
+  PUSHn R5
+  CALL32EXa @R5(+1,+0)
   MOVqw R0, R0(+2,+0)
   MOVnw R7, R7
-main.failed:
-; 40: .return
-  MOVqw R0, R0(+2,+16)
+failed:
+  MOVqw R0, R0(+3,+8)
   POP64 R1
   RET
-main.timer_failed:
-  MOVqw R1, R7
-; 43: .call table->boot_services->close_event, event
-  MOVnw R7, @R0(+0,+8)
-  PUSHn R7
-  MOVnw R4, @R0(+4,+40)
-  MOVnw R4, @R4(+9,+24)
-  CALL32EXa @R4(+11,+24)
+timer_failed:
+  PUSHn R7                ; the status, for the event is closed on each path
+  PUSHn @R0(+1,+8)        ; Event
+  MOVnw R4, @R1(+9,+24)
+  CALL32EXa @R4(+11,+24)  ; CloseEvent
   MOVqw R0, R0(+1,+0)
-  MOVnw R7, R7
-; 44: .return R1
-  MOVqw R7, R1
-  MOVqw R0, R0(+2,+16)
-  POP64 R1
-  RET
+  POPn R7
+  JMP8 failed
 .data
-; 47: guid: .guid 6e6f6464-7970-4f70-8c61-726465626301
-guid: .dd 0x6e6f6464
+guid: .dd 0x6e6f6464     ; a GUID of our own
   .dw 0x7970, 0x4f70
   .db 0x8c, 0x61, 0x72, 0x64, 0x65, 0x62, 0x63, 0x01
-; 48: pages: .string "pages\r\n"
-pages: .dw 112, 97, 103, 101, 115, 13, 10, 0
-; 49: timer: .string "timer\r\n"
-timer: .dw 116, 105, 109, 101, 114, 13, 10, 0
-; 50: protocols: .string "protocols\r\n"
-protocols: .dw 112, 114, 111, 116, 111, 99, 111, 108, 115, 13, 10, 0
+pages: .dw 112, 97, 103, 101, 115, 13, 10, 0  ; 'pages\n'
+timer: .dw 116, 105, 109, 101, 114, 13, 10, 0  ; 'timer\n'
+protocols: .dw 112, 114, 111, 116, 111, 99, 111, 108, 115, 13, 10, 0  ; 'protocols\n'

@@ -7,7 +7,7 @@ ghost use Rattle.asm_text.specs.Lines.{is_ascii, label_of, line_in, parted, stat
 ghost use Rattle.asm_text.specs.Texts.{IsHeldLine, IsHeldStatement, seen_line, seen_statement};
 
 use crate::fault::{AsmFault, both};
-use crate::splits::{lacks, trim, trim_front, until, without_comment};
+use crate::splits::{trim, trim_front, until, without_comment};
 use crate::statements::{Statement, name, statement_of};
 use ebc_base::name_text;
 
@@ -72,10 +72,6 @@ pub fn line_in(line: &[u8]) -> Result<Line<'_>, AsmFault>
 pub fn label_of(line: &[u8]) -> Option<&str>
     ensures { option_map (λ n. n.now) result ≡ label_of line.now }
 {
-    // Most lines have no colon.
-    if lacks(b':', line) {
-        return None;
-    }
     if !is_ascii(line) {
         return None;
     }

@@ -10,4 +10,3 @@ pub mod CheckLaws
 pub mod RunLaws
 pub mod InferLaws
 pub mod StopLaws
-pub mod MissingLaws

@@ -2,15 +2,11 @@
 use Rattle.ebc_cli.proofs.Common.{◌≡◌, ◌↔◌, ℕ, List, ◌++◌, Option, Some, None, append_assoc, refl, sym, ap, ◌∙◌, subst, Files, IsNotes}
 use Rattle.ebc_cli.proofs.Common.{Notes, Script, Bind, Image, read-is-script, Typed, Outcome, Reply, IsReadImage, printed, text_of}
 use Rattle.ebc_cli.proofs.Common.{ReadDriver, PairsImages, TwinsImage, twin_outcome}
-use Rattle.ebc_cli.proofs.Common.{[], decimal}
 use Rattle.std.proofs.Common.{codes}
-use Rattle.std.specs.Prelude.{flat_map}
-use Rattle.note_types.specs.declared.{ending.Ending.Ending, spot.Spot.Spot}
 use Rattle.host_model.specs.{Runs.world_of, Scripts.IsScript}
 use Rattle.pair_host.specs.PairDiffers.{PairsDifferAt}
 use Rattle.pair_host.proofs.PairDiffering.{one_pair_differs, typed_pairs_never_differ}
-use Rattle.printed_texts.specs.PairTexts.{pair_event_line}
-use Rattle.printed_texts.specs.RunTexts.{differ_line, end_line, ending_text, event_line, spot_text, twin_text}
+use Rattle.printed_texts.specs.RunTexts.{differ_line, twin_text}
 use Rattle.twin_run.specs.Differs.{DifferAt}
 use Rattle.twin_run.proofs.{Differing.one_differs, Runs.typed_never_differ}
 use Rattle.pair_laws.proofs.Typed.{typed_pairs_are_same}
@@ -48,27 +44,12 @@ twin-text-ends at4 at8 differ =
     sym (append_assoc (codes "width 32\n") (at4 ++ last) line
     ∙ ap (λ t. codes "width 32\n" ++ t) (append_assoc at4 last line ∙ ap (λ t. at4 ++ t) (append_assoc (codes "width 64\n") at8 line)))
 
--- a text ends in a line feed
-abbrev EndsInLine : List ℕ → Type 0
-EndsInLine text = (begin : List ℕ) × (text ≡ begin ++ codes "\n")
-
-ends-behind : (begin text : List ℕ) → EndsInLine text → EndsInLine (begin ++ text)
-ends-behind begin text e = (begin ++ e.0, ap (λ t. begin ++ t) e.1 ∙ sym (append_assoc begin e.0 (codes "\n")))
-
-end-line-ends : (notes : Notes) (steps : ℕ) (spot : Spot) (ending : Ending) → EndsInLine (end_line notes steps spot ending)
-end-line-ends notes steps spot ending =
-    ends-behind (codes "end ") _ (ends-behind (decimal steps) _ (ends-behind (codes " ") _ (ends-behind (spot_text spot) _
-    (ends-behind (codes " ") _ (ends-behind (ending_text notes ending) (codes "\n") ([], refl))))))
-
-ends-same : (at4 at8 : List ℕ) (differ : Option ℕ) (before now : Option (List ℕ)) → EndsInLine at8 → differ ≡ None
+ends-same : (at4 at8 : List ℕ) (differ : Option ℕ) (before now : Option (List ℕ)) → differ ≡ None
     → now ≡ printed (twin_text at4 at8 differ) before → EndsWith (differ_line None) before now
-ends-same at4 at8 differ before now ends none text =
-    let lines = codes "width 32\n" ++ (at4 ++ (codes "width 64\n" ++ at8)) in
-    let line : EndsInLine lines = ends-behind (codes "width 32\n") _ (ends-behind at4 _ (ends-behind (codes "width 64\n") at8 ends)) in (
-      line.0,
-      text ∙ ap (λ t. printed t before) (ap (twin_text at4 at8) none ∙ twin-text-ends at4 at8 None
-          ∙ ap (λ t. t ++ differ_line None) line.1 ∙ append_assoc line.0 (codes "\n") (differ_line None)),
-    )
+ends-same at4 at8 differ before now none text = (
+  codes "width 32\n" ++ (at4 ++ (codes "width 64\n" ++ at8)),
+  text ∙ ap (λ t. printed t before) (ap (twin_text at4 at8) none ∙ twin-text-ends at4 at8 None),
+)
 
 -- ---- `twin IMAGE NOTES SCRIPT STEPS`
 
@@ -99,8 +80,7 @@ twin-same {words = words} {files = files} {before = before} {now = now} a image 
       typed = typed;
     })).0 t.shown.differ in (
       a.same ∙ ap (λ (r : Reply). r.outcome) t.told ∙ ap twin_outcome none,
-      ends-same (report_text notes t.report.at4) (report_text notes t.report.at8) t.report.differ before now
-          (ends-behind (flat_map (event_line notes) t.report.at8.events.items) _ (end-line-ends notes _ _ _)) none
+      ends-same (report_text notes t.report.at4) (report_text notes t.report.at8) t.report.differ before now none
           (a.text ∙ ap (λ (r : Reply). printed (text_of r.output) before) t.told),
     )
 
@@ -151,7 +131,6 @@ pair-same {words = words} {files = files} {before = before} {now = now} known a 
     (typed-pair a b binds a.script b.script read a_typed b_typed read.a_read.script read.b_read.script) t.shown.differ in (
       known.same ∙ ap (λ (r : Reply). r.outcome) t.told ∙ ap twin_outcome none,
       ends-same (pair_report_text a.notes b.notes t.report.at4) (pair_report_text a.notes b.notes t.report.at8) t.report.differ before now
-          (ends-behind (flat_map (pair_event_line a.notes b.notes) t.report.at8.events.items) _ (end-line-ends a.notes _ _ _))
           none (known.text ∙ ap (λ (r : Reply). printed (text_of r.output) before) t.told),
     )
 

@@ -6,8 +6,7 @@ use Rattle.plain_check.specs.PlainRuns.{RunsAlike}
 use Rattle.plain_check.proofs.{Rules.neutral-exactly, Runs.neutral-alike}
 use Rattle.twin_run.proofs.Runs.{neutral_is_same}
 use Rattle.width_checker.specs.Verdicts.{IsRefused}
-use Rattle.std.proofs.{Common.[], Common.◌∷◌, Common.◌++◌, Common.Some, Common.None, lemmas.List.append_cancel_left}
-use Rattle.ebc_cli.specs.{Answers.PrintsExactly, Answers.SameForScripts, Texts.neutral_line, Works.TellsVerdict}
+use Rattle.ebc_cli.specs.{Answers.SameForScripts, Texts.neutral_line, Works.TellsVerdict}
 use Rattle.printed_texts.specs.Refusals.{refused_line}
 use Rattle.ebc_cli.proofs.{AnswerLaws.Answered, AnswerLaws.can-be-done, AnswerLaws.replied, WorkLemmas.code-work, WorkLemmas.image-work}
 use Rattle.plain_check.specs.PlainRules as plain
@@ -40,39 +39,11 @@ verdict-exactly verdict wanted reply outcome before now told one holds same text
       λ e. text ∙ ap (λ (r : Reply). printed (text_of r.output) before) (told ∙ ap verdict_reply (one.0 (sym is ∙ e))),
     )
 
--- a refusal's line begins with another letter than `neutral`
-abbrev first-code : List ℕ → ℕ
-first-code [] = 0
-first-code (x ∷ xs) = x
-
-refused-apart : (place : ℕ) (rule : RuleName) → refused_line place rule ≡ neutral_line → ⊥
-refused-apart place rule e =
-    let letters : 114 ≡ 110 = ap first-code e in
-    absurd (omega (arith, letters))
-
--- the line `neutral` is that of a verdict exactly where it is neutral
-verdict-line : (verdict : Verdict) → text_of (verdict_reply verdict).output ≡ neutral_line ↔ verdict ≡ Neutral
-verdict-line Neutral = (λ e. refl, λ e. refl)
-verdict-line (Refused place rule) = (λ e. absurd (refused-apart place rule e), λ e. absurd cc)
-
--- so it is printed exactly where the verdict is neutral
-prints-exactly : {Holds : Type 0} (verdict : Verdict) (before now : Option (List ℕ)) → verdict ≡ Neutral ↔ Holds
-    → now ≡ printed (text_of (verdict_reply verdict).output) before → PrintsExactly neutral_line Holds before now
-prints-exactly verdict None now holds text = text
-prints-exactly verdict (Some before) now holds text = (
-  λ e. let same : Some (before ++ text_of (verdict_reply verdict).output) ≡ Some (before ++ neutral_line) = sym text ∙ e in
-      let lines : before ++ text_of (verdict_reply verdict).output ≡ before ++ neutral_line = cc in
-      holds.0 ((verdict-line verdict).0 (append_cancel_left before _ _ lines)),
-  λ h. text ∙ ap (λ line. Some (before ++ line)) ((verdict-line verdict).1 (holds.1 h)),
-)
-
 neutral : {Holds : Type 0} {Fails : ℕ → RuleName → Type 0} (reply : Reply) (outcome : Outcome) (before now : Option (List ℕ))
     → TellsVerdict Holds Fails reply → outcome ≡ reply.outcome → now ≡ printed (text_of reply.output) before
-    → (outcome ≡ outcomes.Done ↔ Holds) × PrintsExactly neutral_line Holds before now
-neutral reply outcome before now t same text = (
-  (verdict-exactly t.verdict Neutral reply outcome before now t.told (verdict-done t.verdict) t.neutral same text).0,
-  prints-exactly t.verdict before now t.neutral (text ∙ ap (λ (r : Reply). printed (text_of r.output) before) t.told),
-)
+    → (outcome ≡ outcomes.Done ↔ Holds) × (outcome ≡ outcomes.Done → now ≡ printed neutral_line before)
+neutral reply outcome before now t same text =
+    verdict-exactly t.verdict Neutral reply outcome before now t.told (verdict-done t.verdict) t.neutral same text
 
 refused : {Holds : Type 0} {Fails : ℕ → RuleName → Type 0} (reply : Reply) (outcome : Outcome) (before now : Option (List ℕ))
     (place : ℕ) (rule : RuleName)
@@ -87,7 +58,7 @@ refused reply outcome before now place rule t same text =
 
 pub image-neutral : {words : List (List ℕ)} {files : Files} {outcome : Outcome} {before now : Option (List ℕ)}
     → Answered words files outcome before now → (image : Image) (notes : Notes) → ChecksImage words files image notes
-    → (outcome ≡ outcomes.Done ↔ Typed image notes) × PrintsExactly neutral_line (Typed image notes) before now
+    → (outcome ≡ outcomes.Done ↔ Typed image notes) × (outcome ≡ outcomes.Done → now ≡ printed neutral_line before)
 image-neutral {words = words} {files = files} a image notes c =
     neutral a.reply _ _ _ (replied _ _ a.reply (image-work words files image notes c) a.answer) a.same a.text
 
@@ -110,7 +81,7 @@ image-alike {words = words} {files = files} a e image notes c = λ text script P
 
 pub code-neutral : {words : List (List ℕ)} {files : Files} {outcome : Outcome} {before now : Option (List ℕ)}
     → Answered words files outcome before now → (code : List ℕ) → ChecksCode words files code
-    → (outcome ≡ outcomes.Done ↔ plain.IsNeutral code) × PrintsExactly neutral_line (plain.IsNeutral code) before now
+    → (outcome ≡ outcomes.Done ↔ plain.IsNeutral code) × (outcome ≡ outcomes.Done → now ≡ printed neutral_line before)
 code-neutral {words = words} {files = files} a code c =
     neutral a.reply _ _ _ (replied _ _ a.reply (code-work words files code c) a.answer) a.same a.text
 

@@ -1,5 +1,5 @@
 -- Meaning: the answer of the program to its words, over the files of a folder: docs/COMMANDS.md, "The answer".
-use Rattle.std.specs.Prelude.{◌≡◌, ◌↔◌, ℕ, ◌≤◌, List, [], ◌++◌, Option, Some, None, Result, Ok, Err, codes}
+use Rattle.std.specs.Prelude.{◌≡◌, ℕ, ◌≤◌, List, [], ◌++◌, Option, Some, Result, Ok, Err}
 use Rattle.std.specs.Fmt.{decimal}
 use Rattle.bind_texts.specs.BindTexts.{binds_of}
 use Rattle.ebc_disasm.specs.Listings.{listing_of}
@@ -94,14 +94,9 @@ HasNoText (works.WriteTaken name bytes) = Unit {0}
 HasNoText (works.InferPoints name image notes) = IsInferred image notes (Points [])
 HasNoText work = ⊥
 
--- the last line that was printed is this one: a line feed stands before it
+-- the last line that was printed is this one
 abbrev pub EndsWith : List ℕ → (before now : Option (List ℕ)) → Type 0
-EndsWith line before now = (text : List ℕ) × (now ≡ printed (text ++ (codes "\n" ++ line)) before)
-
--- this was printed exactly where a fact holds, if the output tells its text
-abbrev pub PrintsExactly : List ℕ → Type 0 → (before now : Option (List ℕ)) → Type 0
-PrintsExactly text Fact None now = now ≡ None
-PrintsExactly text Fact (Some before) now = now ≡ Some (before ++ text) ↔ Fact
+EndsWith line before now = (text : List ℕ) × (now ≡ printed (text ++ line) before)
 
 -- ---- what the words name
 
@@ -122,13 +117,6 @@ pub record ChecksImage (words : List (List ℕ)) (files : Files) (image : Image)
   pub notes_file : HasFile files notes_name notes_limit text
   pub image_is : image_of bytes ≡ Ok image
   pub notes_are : notes_of text ≡ Ok notes
-
--- the folder has a file of this name, within its limit, that stands for an image
-pub record HasImage (files : Files) (name : List ℕ) : Type 0 where
-  pub bytes : List ℕ
-  pub image : Image
-  pub image_file : HasFile files name image_limit bytes
-  pub image_is : image_of bytes ≡ Ok image
 
 -- the words are `infer IMAGE NOTES`, where the image has this name, and so here
 pub record InfersPoints (words : List (List ℕ)) (files : Files) (name : List ℕ) (image : Image) (notes : Notes) : Type 0 where

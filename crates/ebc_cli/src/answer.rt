@@ -1,7 +1,6 @@
 //! The top call: what is read, what is answered, and what is printed or written.
 ghost use Rattle.std.specs.Prelude.{◌≡◌, ◌≢◌, ◌++◌, ◌↔◌, ◌⊎◌, ◌<◌, ◌≤◌, ◌^◌, ℕ, List, Option, Some, None, Ok, Err};
 ghost use Rattle.std.specs.Prelude.{IfSome, IfNone, IfOk, IfErr, IsErrOf};
-ghost use Rattle.std.specs.FinMap.{get};
 ghost use Rattle.std.specs.Fmt.{decimal};
 ghost use Rattle.ebc_outside.specs.Counts.{Rose};
 ghost use Rattle.host_model.specs.Runs.{world_of};
@@ -35,10 +34,8 @@ ghost use Rattle.cli_base.specs.Readings.{AsksPart};
 ghost use Rattle.cli_base.specs.Words.{word_bytes};
 ghost use Rattle.ebc_cli.specs.declared.pairing.ReadDriver.{ReadDriver};
 ghost use Rattle.ebc_cli.specs.declared.work.Work.{Work};
-ghost use Rattle.ebc_cli.specs.declared.command.Command.TheVariants.{CheckImage};
-ghost use Rattle.ebc_cli.specs.Answers.{Answers, ChecksCode, ChecksImage, EndsWith, HasImage, HasNoText, InfersPoints, IsOutcomeOfWork};
-ghost use Rattle.ebc_cli.specs.Answers.{IsStop, LeavesPart, PairsImages, PrintsExactly, SameForScripts, SamePairForScripts, StopsWith};
-ghost use Rattle.ebc_cli.specs.Answers.{TwinsImage};
+ghost use Rattle.ebc_cli.specs.Answers.{Answers, ChecksCode, ChecksImage, EndsWith, HasNoText, InfersPoints, IsOutcomeOfWork, IsStop};
+ghost use Rattle.ebc_cli.specs.Answers.{LeavesPart, PairsImages, SameForScripts, SamePairForScripts, StopsWith, TwinsImage};
 ghost use Rattle.ebc_cli.specs.Commands.{command_of, output_of};
 ghost use Rattle.ebc_cli.specs.Pairings.{images_of, pair_world_of};
 ghost use Rattle.ebc_cli.specs.Reads.{AnswersWords, Decides};
@@ -59,29 +56,6 @@ pub fn ebc<F: Folder, O: Sink>(
     folder: &mut F,
     out: &mut O,
 ) -> Outcome
-    // `check IMAGE NOTES` calls an image neutral, by the line `neutral`, exactly where it is typed under the notes.
-    ensures neutral_exactly { IfSome (F.contents folder.old) (λ files. IsAnswer result → (image : Image) (notes : Notes) →
-        ChecksImage (word_bytes words.now) files image notes → (result ≡ Outcome.Done ↔ Typed image notes)
-        × PrintsExactly neutral_line (Typed image notes) (O.written out.old) (O.written out.new)) }
-
-    // A neutral image is the same at both widths: for every text that stands for a script under the notes, all valid placements and
-    // every number of steps, the 32-bit and the 64-bit machine stand at the same instruction, have made the same calls with the
-    // same replies, hold the same in memory, and have raised no exception but a division by zero that both raise.
-    ensures neutral_alike { IfSome (F.contents folder.old) (λ files. result ≡ Outcome.Done → (image : Image) (notes : Notes) →
-        ChecksImage (word_bytes words.now) files image notes → SameForScripts image notes) }
-
-    // Else it refuses the image, by the line of a place and a rule, exactly at the first place at which a rule fails, by the first rule
-    // that fails there.
-    ensures refused_exactly { IfSome (F.contents folder.old) (λ files.
-        IsAnswer result → (image : Image) (notes : Notes) (place : ℕ) (rule : RuleName) →
-        ChecksImage (word_bytes words.now) files image notes → (result ≡ Outcome.Refused place rule ↔ IsRefused image notes place rule)
-        × (result ≡ Outcome.Refused place rule → O.written out.new ≡ printed (refused_line place rule) (O.written out.old))) }
-
-    // A file of these words is missing exactly where the folder doesn't have it; the notes, where there is an image.
-    ensures missing_exactly { IfSome (F.contents folder.old) (λ files. IsAnswer result → (image notes : List ℕ) →
-        command_of (word_bytes words.now) ≡ Some (CheckImage image notes) → (result ≡ Outcome.Missing 1 ↔ get files image ≡ None)
-        × (result ≡ Outcome.Missing 2 ↔ HasImage files image × (get files notes ≡ None))) }
-
     // Where the folder tells its files, the outcome, the printed text and the files that are left are those of an answer to the
     // words (`work_of`, `IsReplyTo`), whatever the counts of faults did. The names asked for are those that the words ask for, also
     // where the output then fails, and a first part of them where a read failed or memory ran out.
@@ -94,6 +68,22 @@ pub fn ebc<F: Folder, O: Sink>(
 
     // No file changes but the one that the words name as an output, if they name one.
     ensures files { SameBut (output_of (command_of (word_bytes words.now))) (F.contents folder.old) (F.contents folder.new) }
+
+    // `check IMAGE NOTES` calls an image neutral, by the line `neutral`, exactly where it is typed under the notes, and refuses it, by the
+    // line of a place and a rule, exactly at the first place at which a rule fails, by the first rule that fails there.
+    ensures neutral_exactly { IfSome (F.contents folder.old) (λ files. IsAnswer result → (image : Image) (notes : Notes) →
+        ChecksImage (word_bytes words.now) files image notes → (result ≡ Outcome.Done ↔ Typed image notes)
+        × (result ≡ Outcome.Done → O.written out.new ≡ printed neutral_line (O.written out.old))) }
+    ensures refused_exactly { IfSome (F.contents folder.old) (λ files.
+        IsAnswer result → (image : Image) (notes : Notes) (place : ℕ) (rule : RuleName) →
+        ChecksImage (word_bytes words.now) files image notes → (result ≡ Outcome.Refused place rule ↔ IsRefused image notes place rule)
+        × (result ≡ Outcome.Refused place rule → O.written out.new ≡ printed (refused_line place rule) (O.written out.old))) }
+
+    // A neutral image is the same at both widths: for every text that stands for a script under the notes, all valid placements and
+    // every number of steps, the 32-bit and the 64-bit machine stand at the same instruction, have made the same calls with the
+    // same replies, and have raised no exception but a division by zero that both raise.
+    ensures neutral_alike { IfSome (F.contents folder.old) (λ files. result ≡ Outcome.Done → (image : Image) (notes : Notes) →
+        ChecksImage (word_bytes words.now) files image notes → SameForScripts image notes) }
 
     // `twin IMAGE NOTES SCRIPT STEPS` is Done exactly where the two runs are the same after each number of steps up to STEPS, and Differ
     // exactly by the least after which they aren't. Where the image is typed under the notes they are, and `same` is printed last.
@@ -143,7 +133,7 @@ pub fn ebc<F: Folder, O: Sink>(
     // at both widths.
     ensures plain_neutral_exactly { IfSome (F.contents folder.old) (λ files. IsAnswer result → (code : List ℕ) →
         ChecksCode (word_bytes words.now) files code → (result ≡ Outcome.Done ↔ plain.IsNeutral code)
-        × PrintsExactly neutral_line (plain.IsNeutral code) (O.written out.old) (O.written out.new)) }
+        × (result ≡ Outcome.Done → O.written out.new ≡ printed neutral_line (O.written out.old))) }
     ensures plain_refused_exactly { IfSome (F.contents folder.old) (λ files.
         IsAnswer result → (code : List ℕ) (place : ℕ) (rule : RuleName) →
         ChecksCode (word_bytes words.now) files code → (result ≡ Outcome.Refused place rule ↔ plain.IsRefused code place rule)

@@ -22,7 +22,6 @@ mod field;
 mod form;
 mod insn;
 mod reader;
-mod row;
 
 ghost use Rattle.std.specs.Prelude.{◌≡◌, ℕ, ◌+◌, ◌≤◌, List, ◌++◌, length, take, drop, Ok, IfOk, OnErr};
 ghost use Rattle.arrayvec.specs.ArrayVec.{array_vec_len};
@@ -37,7 +36,6 @@ use crate::reader::{
     read_move_signed, read_pop, read_pop_natural, read_push, read_push_natural, read_ret,
     read_store_special,
 };
-use crate::row::{Row, row_at};
 use arrayvec::ArrayVec;
 use ebc_insn::{Code, Field, Insn, Size, parts};
 
@@ -129,36 +127,37 @@ fn read<const COPY: usize>(bytes: &[u8]) -> Decoded
     }
 }
 
-// Reads by the row of the opcode, with one branch on it ("EBC Instruction Set").
+// Reads by the opcode, with one branch on it: a row for each ("EBC Instruction Set").
+#[tactic(auto, unfolding(crate::specs::Reading::form_at))]
 fn read_opcode<const COPY: usize>(opcode: u8, b0: u8, b1: u8, rest: &[u8]) -> Decoded
     ensures { result_of result ≡ read_form (form_at opcode) b0 b1 rest.now }
 {
-    match row_at(opcode) {
-        Row::Break => read_break(b0, b1, rest),
-        Row::Jump => read_jump(b0, b1, rest),
-        Row::Jump8 => read_jump8(b0, b1, rest),
-        Row::Call => read_call(b0, b1, rest),
-        Row::Ret => read_ret(b0, b1, rest),
-        Row::Compare => read_compare(cmp_op_at(opcode - 0x05), b0, b1, rest),
-        Row::Arith => read_arith(arith_op_at(opcode - 0x0A), b0, b1, rest),
-        Row::Move16 => read_move(size_at(opcode - 0x1D), 16, b0, b1, rest),
-        Row::Move32 => read_move(size_at(opcode - 0x21), 32, b0, b1, rest),
-        Row::MoveSigned16 => read_move_signed(16, b0, b1, rest),
-        Row::MoveSigned32 => read_move_signed(32, b0, b1, rest),
-        Row::MoveLong => read_move(Size::Qword, 64, b0, b1, rest),
-        Row::LoadSpecial => read_load_special(b0, b1, rest),
-        Row::StoreSpecial => read_store_special(b0, b1, rest),
-        Row::Push => read_push(b0, b1, rest),
-        Row::Pop => read_pop(b0, b1, rest),
-        Row::CompareImm => read_compare_imm(cmp_op_at(opcode - 0x2D), b0, b1, rest),
-        Row::MoveNatural16 => read_move(Size::Natural, 16, b0, b1, rest),
-        Row::MoveNatural32 => read_move(Size::Natural, 32, b0, b1, rest),
-        Row::PushNatural => read_push_natural(b0, b1, rest),
-        Row::PopNatural => read_pop_natural(b0, b1, rest),
-        Row::MoveImm => read_move_imm(b0, b1, rest),
-        Row::MoveImmNatural => read_move_imm_natural(b0, b1, rest),
-        Row::MoveRelative => read_move_relative(b0, b1, rest),
-        Row::Nothing => Decoded::Fault(DecodeFault::Opcode),
+    match opcode {
+        0x00 => read_break(b0, b1, rest),
+        0x01 => read_jump(b0, b1, rest),
+        0x02 => read_jump8(b0, b1, rest),
+        0x03 => read_call(b0, b1, rest),
+        0x04 => read_ret(b0, b1, rest),
+        0x05..=0x09 => read_compare(cmp_op_at(opcode - 0x05), b0, b1, rest),
+        0x0A..=0x1C => read_arith(arith_op_at(opcode - 0x0A), b0, b1, rest),
+        0x1D..=0x20 => read_move(size_at(opcode - 0x1D), 16, b0, b1, rest),
+        0x21..=0x24 => read_move(size_at(opcode - 0x21), 32, b0, b1, rest),
+        0x25 => read_move_signed(16, b0, b1, rest),
+        0x26 => read_move_signed(32, b0, b1, rest),
+        0x28 => read_move(Size::Qword, 64, b0, b1, rest),
+        0x29 => read_load_special(b0, b1, rest),
+        0x2A => read_store_special(b0, b1, rest),
+        0x2B => read_push(b0, b1, rest),
+        0x2C => read_pop(b0, b1, rest),
+        0x2D..=0x31 => read_compare_imm(cmp_op_at(opcode - 0x2D), b0, b1, rest),
+        0x32 => read_move(Size::Natural, 16, b0, b1, rest),
+        0x33 => read_move(Size::Natural, 32, b0, b1, rest),
+        0x35 => read_push_natural(b0, b1, rest),
+        0x36 => read_pop_natural(b0, b1, rest),
+        0x37 => read_move_imm(b0, b1, rest),
+        0x38 => read_move_imm_natural(b0, b1, rest),
+        0x39 => read_move_relative(b0, b1, rest),
+        _ => Decoded::Fault(DecodeFault::Opcode),
     }
 }
 

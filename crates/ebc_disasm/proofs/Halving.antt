@@ -3,9 +3,6 @@ use Rattle.std.proofs.Common.{◌≡◌, ℕ, suc, ◌+◌, ◌<◌, ◌≤◌, 
 use Rattle.std.proofs.Common.{sym, subst, ◌∙◌, ⊎_elim, arith, leb}
 use Rattle.std.specs.Prelude.{slice_get}
 use Rattle.std.specs.List.{find, position_or_len}
-use Rattle.std.specs.Option.{option_map_or}
-use Rattle.ebc_width.specs.Bytes.{little_endian}
-use Rattle.ebc_width.proofs.ByteLaws.{little_endian-agree}
 use Rattle.std.specs.List.Sorted.{IsNonDecreasingBy, IsPartitionPoint, IsPartitionedBy}
 use Rattle.std.proofs.lemmas.Bool.{cases_lt, leb-false, leb-true}
 use Rattle.std.proofs.lemmas.Bool.Decides.{nat_tests}
@@ -17,7 +14,7 @@ use Rattle.std.proofs.lemmas.Option.{get_or_from_slice_get, slice_get_within}
 use Rattle.pe_image.specs.declared.image.Image.{Image}
 use Rattle.pe_image.specs.declared.image.Section.{Section}
 use Rattle.pe_image.specs.Images.{IsImage}
-use Rattle.pe_image.specs.Mapped.{has_place, image_byte, laid, section_byte, section_with}
+use Rattle.pe_image.specs.Mapped.{has_place, section_with}
 use Rattle.ebc_disasm.specs.Walks.{EndsParted}
 
 -- ---- where the sections are halved
@@ -114,29 +111,3 @@ pub with_end : (image : Image) (x n : ℕ) → EndsParted image.sections x n →
 unfolding section_with
 with_end image x n parts past =
     find_none (has_place x) image.sections (λ k d less. ended x (get_or image.sections k d) (parts.0 k d (omega arith) (omega arith)))
-
--- ---- eight bytes of one section
-
--- what a place parts, each later place in the same section parts
-still_parted : (image : Image) (p x n : ℕ) (s : Section) → IsImage image → EndsParted image.sections p n
-    → slice_get image.sections n ≡ Some s → p ≤ x → x < end_of s → EndsParted image.sections x n
-still_parted image p x n s is parts at up short = (
-  λ k d low high. let before : end_of (get_or image.sections k d) ≤ p = parts.0 k d low high in omega arith,
-  λ k d low high.
-    let here : end_of (get_or image.sections n d) ≡ end_of s = ap end_of (get_or_from_slice_get image.sections n s d at) in
-    let rise : end_of (get_or image.sections n d) ≤ end_of (get_or image.sections k d) = ends_rise image is n k d low high in
-    omega arith,
-)
-
-byte_in : (image : Image) (x n : ℕ) (s : Section) → EndsParted image.sections x n → slice_get image.sections n ≡ Some s → s.place ≤ x
-    → section_byte x s ≡ image_byte image x
-unfolding laid section_with
-byte_in image x n s parts at low = sym (ap (λ o. option_map_or (section_byte x) o 0) (with_first image x n s parts at low))
-
--- the number in them is the image's
-pub number_in_section : (image : Image) (p n : ℕ) (s : Section) → IsImage image → EndsParted image.sections p n
-    → slice_get image.sections n ≡ Some s → s.place ≤ p → p + 8 ≤ end_of s
-    → little_endian (λ x. section_byte x s) p 8 ≡ little_endian (image_byte image) p 8
-number_in_section image p n s is parts at low high =
-    little_endian-agree (λ x. section_byte x s) (image_byte image) p 8 (λ x from to.
-    byte_in image x n s (still_parted image p x n s is parts at from (omega arith)) at (omega arith))

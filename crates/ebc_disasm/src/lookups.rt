@@ -1,6 +1,6 @@
 //! What an image has at a place: its section is found by halving the sections, which ascend.
 
-ghost use Rattle.std.specs.Prelude.{◌≡◌, ◌+◌, ◌<◌, ◌^◌, option_copied};
+ghost use Rattle.std.specs.Prelude.{◌≡◌, ◌+◌, option_copied};
 ghost use Rattle.ebc_width.specs.Bytes.{little_endian};
 ghost use Rattle.pe_image.specs.Images.{IsImage};
 ghost use Rattle.pe_image.specs.Mapped.{image_byte, named_place, section_byte, section_with};
@@ -62,52 +62,22 @@ pub fn byte_at(image: &Image, place: u64) -> u8
     }
 }
 
-// The number in the eight bytes of a section from a place on.
-fn number_in(s: &Section, place: u64) -> u64
-    requires { place < 2 ^ 32 }
-    ensures { result ≡ little_endian (λ x. section_byte x s.now) place 8 }
-{
-    u64::from_le_bytes([
-        section_byte(s, place),
-        section_byte(s, place + 1),
-        section_byte(s, place + 2),
-        section_byte(s, place + 3),
-        section_byte(s, place + 4),
-        section_byte(s, place + 5),
-        section_byte(s, place + 6),
-        section_byte(s, place + 7),
-    ])
-}
-
-// The number in the eight bytes from a place on, each looked for by itself.
-fn number_by_bytes(image: &Image, place: u64) -> u64
-    requires image { IsImage image.now }
-    requires place { place < 2 ^ 32 }
-    ensures { result ≡ little_endian (image_byte image.now) place 8 }
-{
-    u64::from_le_bytes([
-        byte_at(image, place),
-        byte_at(image, place + 1),
-        byte_at(image, place + 2),
-        byte_at(image, place + 3),
-        byte_at(image, place + 4),
-        byte_at(image, place + 5),
-        byte_at(image, place + 6),
-        byte_at(image, place + 7),
-    ])
-}
-
-// The number in the eight bytes from a place on. Where they lie in one section, it is looked for once.
+// The number in the eight bytes from a place on.
 fn number_at(image: &Image, place: u32) -> u64
     requires { IsImage image.now }
     ensures { result ≡ little_endian (image_byte image.now) place 8 }
 {
     let p = u64::from(place);
-    let first = first_past(image, p);
-    match image.sections.as_slice().get(first) {
-        Some(s) if u64::from(s.place) <= p && p + 8 <= end_of(s) => number_in(s, p),
-        _ => number_by_bytes(image, p),
-    }
+    u64::from_le_bytes([
+        byte_at(image, p),
+        byte_at(image, p + 1),
+        byte_at(image, p + 2),
+        byte_at(image, p + 3),
+        byte_at(image, p + 4),
+        byte_at(image, p + 5),
+        byte_at(image, p + 6),
+        byte_at(image, p + 7),
+    ])
 }
 
 /// The place that the relocated eight bytes at a place name.

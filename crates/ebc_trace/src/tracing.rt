@@ -1,18 +1,18 @@
 //! What is printed of a run that is done.
-ghost use Rattle.std.specs.Prelude.{◌≡◌, ◌≤◌, ℕ, List, IfOk, IfSome, Ok};
+ghost use Rattle.std.specs.Prelude.{◌≡◌, ◌≤◌, ◌++◌, IfOk};
 ghost use Rattle.ebc_width.specs.Width.{IsWidth};
 ghost use Rattle.cli_base.specs.Inputs.{IsReadImage};
-ghost use Rattle.file_inputs.specs.Held.{HasFile};
+ghost use Rattle.host_model.specs.Runs.{world_of};
 ghost use Rattle.host_model.specs.Scripts.{IsScript};
 ghost use Rattle.note_types.specs.Records.{IsNotes};
-ghost use Rattle.protocol_script.specs.Scripts.{script_of};
-ghost use Rattle.ebc_cli.specs.Inputs.{script_limit};
-ghost use Rattle.ebc_trace.specs.Traces.{IsRunText, IsTextOf, IsTrace, step_number};
+ghost use Rattle.printed_texts.specs.RunTexts.{end_line};
+ghost use Rattle.run_trace.specs.Traces.{trace_lines};
+ghost use Rattle.twin_run.specs.Reported.{IsReport};
+ghost use Rattle.twin_run.specs.declared.reports.RunReport.{RunReport};
 
 use crate::request::{Request, Widths};
-use cli_base::file;
 use ebc_base::NoMemory;
-use ebc_outside::Folder;
+use ebc_outside::{Folder, MemFolder};
 use file_inputs::read_as;
 use note_types::{Notes, Script};
 use pe_image::Image;
@@ -39,7 +39,9 @@ fn lines_at<const W: usize>(
     requires notes { IsNotes notes.now }
     requires script { IsScript notes.now script.now }
     requires first { 1 ≤ first }
-    ensures { IfOk result (λ text. IsRunText W image.now notes.now script.now first last text.items) }
+    ensures { IfOk result (λ text. (report : RunReport) × IsReport W image.now (world_of image.now notes.now script.now) last report
+        × (text.items ≡ trace_lines W image.now (world_of image.now notes.now script.now) first last
+        ++ end_line notes.now report.steps report.spot report.ending)) }
 {
     let mut out = Vec::new(alloc);
     let report = trace::<W>(alloc, image, notes, script, first, last, &mut out)?;
@@ -65,8 +67,6 @@ fn lines(
     requires image { IsReadImage image.now }
     requires notes { IsNotes notes.now }
     requires script { IsScript notes.now script.now }
-    ensures { IfOk result (λ text. IsTextOf request.now.widths image.now notes.now script.now
-        (step_number request.now.first.now) (step_number request.now.last.now) text.items) }
 {
     let (first, last) = (request.first(), request.last());
     match request.widths {
@@ -76,35 +76,26 @@ fn lines(
     }
 }
 
-// The script of a run under notes, of a file that `run` has read.
-fn script_of<F: Folder>(alloc: Global, folder: &mut F, name: &str, notes: &Notes) -> Option<Script>
-    ensures held { IfSome (F.contents folder.old) (λ files. IfSome result (λ script. (text : List ℕ) ×
-        (HasFile files name.now script_limit text × (script_of notes.now text ≡ Ok script)))) }
-    ensures valid { IfSome result (IsScript notes.now) }
-{
-    let text = file(alloc, folder, 3, name, SCRIPT_LIMIT).ok()?;
-    read_script(alloc, text.as_slice(), notes).ok()
-}
-
 /// The lines of the steps that are asked for, and the last line of the run, of files that `run` has read.
 ///
 /// # Errors
 ///
 /// There is no memory. So it is too where a file wasn't kept, since files of a run that is done are lacking for want of memory alone.
-pub(crate) fn traced<F: Folder>(
+pub(crate) fn traced(
     alloc: Global,
     request: &Request,
-    folder: &mut F,
-) -> Result<Vec<u8>, NoMemory>
-    ensures { IfSome (F.contents folder.old) (λ files. IfOk result (λ text. IsTrace request.now files text.items)) }
-{
-    let Ok(image) = read_as::<Image, F>(alloc, folder, 1, request.image) else {
+    folder: &mut MemFolder,
+) -> Result<Vec<u8>, NoMemory> {
+    let Ok(image) = read_as::<Image, MemFolder>(alloc, folder, 1, request.image) else {
         return Err(NoMemory);
     };
-    let Ok(notes) = read_as::<Notes, F>(alloc, folder, 2, request.notes) else {
+    let Ok(notes) = read_as::<Notes, MemFolder>(alloc, folder, 2, request.notes) else {
         return Err(NoMemory);
     };
-    let Some(script) = script_of(alloc, folder, request.script, &notes) else {
+    let Ok(text) = folder.read(alloc, request.script, SCRIPT_LIMIT) else {
+        return Err(NoMemory);
+    };
+    let Ok(script) = read_script(alloc, text.as_slice(), &notes) else {
         return Err(NoMemory);
     };
     lines(alloc, request, &image, &notes, &script)

@@ -11,7 +11,7 @@ ghost use Rattle.note_infer.specs.Coming.{state_at};
 use ebc_base::{NoMemory, Sequence};
 use note_types::{CompactState, Notes, Point, Points, State};
 use pe_image::Image;
-use rules_image::{apart_below, check_functions, check_shapes, check_statics, check_thunks};
+use rules_image::{all_apart, check_functions, check_shapes, check_statics, check_thunks};
 use std::alloc::Global;
 use width_checker::Checker;
 
@@ -32,7 +32,7 @@ pub(crate) fn tables_hold(alloc: Global, image: &Image, notes: &Notes) -> Result
         return Ok(false);
     };
     let mut checker = Checker::reserve(alloc, image, notes)?;
-    let apart = apart_below(notes, checker.order.as_mut_slice());
+    let apart = all_apart(notes, checker.order.as_mut_slice());
     let Ok(()) = check_statics(image, notes, apart) else {
         return Ok(false);
     };

@@ -74,9 +74,9 @@ pub data IsThing (notes : Notes) (k place size : ℕ) : Type 0 where
       → place ≡ f.place → size ≡ f.end - f.place
       → IsThing notes k place size
 
--- none of those below number i shares a byte with another
-abbrev pub ShareNoByteBelow : Notes → ℕ → Type 0
-ShareNoByteBelow notes i = (j k p q n m : ℕ) → j < i → j < k → IsThing notes j p n → IsThing notes k q m → AreApart p n q m
+-- no two of them share a byte
+abbrev pub AreAllApart : Notes → Type 0
+AreAllApart notes = (j k p q n m : ℕ) → j < k → IsThing notes j p n → IsThing notes k q m → AreApart p n q m
 
 -- a place and a size are those of thing k, where a size past 2^40 may be cut to that
 abbrev pub IsRangeOf : Notes → ℕ → ℕ → ℕ → Type 0
@@ -86,14 +86,8 @@ IsRangeOf notes k place size = (p n : ℕ) → IsThing notes k p n → (place �
 abbrev pub AreNumbered : List ℕ → Type 0
 AreNumbered order = (k : ℕ) → k < length order → slice_index order k ≡ k
 
--- each of these things that is numbered below i begins past the earlier ones
-abbrev pub BeginsPastEarlier : Notes → List ℕ → ℕ → Type 0
-BeginsPastEarlier notes order i = (j k p q n m : ℕ) → j < k → k < length order → slice_index order k < i
-    → IsThing notes (slice_index order j) p n → IsThing notes (slice_index order k) q m
-    → p + n ≤ q
-
--- each of these things that is numbered below i ends before the later ones begin
-abbrev pub EndsBeforeLater : Notes → List ℕ → ℕ → Type 0
-EndsBeforeLater notes order i = (j k p q n m : ℕ) → j < k → k < length order → slice_index order j < i
-    → IsThing notes (slice_index order j) p n → IsThing notes (slice_index order k) q m
+-- each of these things ends before the later ones begin
+abbrev pub AreInTurn : Notes → List ℕ → Type 0
+AreInTurn notes order =
+    (j k p q n m : ℕ) → j < k → k < length order → IsThing notes (slice_index order j) p n → IsThing notes (slice_index order k) q m
     → p + n ≤ q

@@ -7,8 +7,8 @@ ghost use Rattle.note_types.specs.declared.notes.Thunk.{Thunk};
 ghost use Rattle.note_types.specs.declared.shape.Shape.{Shape};
 ghost use Rattle.pe_image.specs.Images.{IsImage};
 ghost use Rattle.rules_image.specs.Images.{AreApart, extent};
-ghost use Rattle.rules_image.specs.Checks.{ShareNoByteBelow, AreNumbered, BeginsPastEarlier, EndsBeforeLater, IsRangeOf, things};
-ghost use Rattle.rules_image.specs.Checks.{IsApartFromFunctions, IsApartFromStatic, IsApartFromStatics, IsApartFromThunks};
+ghost use Rattle.rules_image.specs.Checks.{AreAllApart, AreInTurn, AreNumbered, IsRangeOf, things, IsApartFromFunctions, IsApartFromStatic};
+ghost use Rattle.rules_image.specs.Checks.{IsApartFromStatics, IsApartFromThunks};
 
 use note_types::{FnNote, Notes, Shape, Static, Thunk};
 use pe_image::Image;
@@ -172,49 +172,31 @@ fn number_all(order: &mut [u32])
     }
 }
 
-// The least number of a thing of these that begins before an earlier one ends, or how many there are.
-fn first_covered(notes: &Notes, order: &[u32]) -> usize
-    ensures { BeginsPastEarlier notes.now order.now result }
+// Whether each thing of these ends before the next one begins.
+fn are_in_turn(notes: &Notes, order: &[u32]) -> bool
+    ensures { IsTrue result → AreInTurn notes.now order.now }
 {
-    let mut least = order.len();
     let mut reach = 0u64;
     for number in order {
         let (place, size) = range_of(notes, *number as usize);
         if u64::from(place) < reach {
-            least = least.min(*number as usize);
+            return false;
         }
-        reach = reach.max(u64::from(place) + size);
+        reach = u64::from(place) + size;
     }
-    least
+    true
 }
 
-// The least number of a thing of these that ends past where a later one begins, or how many there are.
-fn first_covering(notes: &Notes, order: &[u32]) -> usize
-    ensures { EndsBeforeLater notes.now order.now result }
-{
-    let mut least = order.len();
-    let mut low = 1u64 << 32;
-    for at in (0..order.len()).rev() {
-        let number = order[at] as usize;
-        let (place, size) = range_of(notes, number);
-        if low < u64::from(place) + size {
-            least = least.min(number);
-        }
-        low = low.min(u64::from(place));
-    }
-    least
-}
-
-/// Sorts all things of the notes by their places, and gives a number: each thing numbered below it shares no byte with another.
-/// Where two share a byte, or there are more things than places, it is less than how many there are, which no clause says.
-pub fn apart_below(notes: &Notes, order: &mut [u32]) -> usize
+/// Sorts all things of the notes by their places. True says that no two of them share a byte. False comes where two do, or where
+/// there are more things than places, which no clause says.
+pub fn all_apart(notes: &Notes, order: &mut [u32]) -> bool
     requires { length order.old ≡ things notes.now }
-    ensures { ShareNoByteBelow notes.now result }
+    ensures { IsTrue result → AreAllApart notes.now }
 {
     if order.len() >= u32::MAX as usize {
-        return 0;
+        return false;
     }
     number_all(order);
     order.sort_unstable_by_key(|number| range_of(notes, *number as usize).0);
-    first_covered(notes, order).min(first_covering(notes, order))
+    are_in_turn(notes, order)
 }

@@ -11,9 +11,9 @@
 //!   functions, static objects or thunk cells (`holds`), or the number of the first of which it doesn't (`fails`).
 //!   `check_shapes` and `check_statics` ask for notes that meet their conditions (`IsNotes`), and the latter that the
 //!   rule of shapes holds.
-//! - `apart_below` sorts all things of the notes by their places, and gives a number: none of those numbered below it
-//!   shares a byte with another (`ShareNoByteBelow`). Of the others no clause tells anything; `check_statics` and
-//!   `check_thunks`, which are told the number, try each of them by itself.
+//! - `all_apart` sorts all things of the notes by their places: true says that no two of them share a byte
+//!   (`AreAllApart`). What false says no clause tells; `check_statics` and `check_thunks`, which are told the answer,
+//!   try each thing by itself then.
 //! - `code_of`: the bytes of a function of which the rule holds, exactly (`IsCodeOf`).
 //! - `relocation`: the place that the relocated immediate of an instruction names, or none, where the rule `relocation`
 //!   holds (`holds`), and an error where it doesn't (`fails`). `past`: the relocations that are left at the next
@@ -38,7 +38,7 @@ mod statics;
 mod tables;
 mod thunks;
 
-pub use apart::apart_below;
+pub use apart::all_apart;
 pub use marks::{Marks, first_point, first_reloc};
 pub use relocations::{ends_within, past, relocation};
 pub use statics::check_statics;

@@ -4,7 +4,7 @@ ghost use Rattle.std.specs.Prelude.{◌≡◌, ◌+◌, ◌<◌, ◌≤◌, ◌�
 ghost use Rattle.note_types.specs.Records.{IsNotes};
 ghost use Rattle.pe_image.specs.Images.{IsImage};
 ghost use Rattle.rules_image.specs.Images.{IsStatic, ShapeHolds, StaticHolds, IsFirstFailing};
-ghost use Rattle.rules_image.specs.Checks.{ShareNoByteBelow, IsStaticApart, StaticFits};
+ghost use Rattle.rules_image.specs.Checks.{AreAllApart, IsStaticApart, StaticFits};
 
 use crate::apart::{
     extent_inside, is_apart_from_functions, is_apart_from_statics, is_apart_from_thunks,
@@ -13,15 +13,15 @@ use crate::content::has_content;
 use note_types::{Notes, Shape, Static};
 use pe_image::Image;
 
-// Whether a static object, of so many bytes, shares none with a function, a later static object or a thunk cell. Those numbered
-// below `apart` do so.
-fn is_static_apart(notes: &Notes, apart: usize, number: usize, x: &Static, size: u64) -> bool
+// Whether a static object, of so many bytes, shares none with a function, a later static object or a thunk cell. `apart` may say
+// only what is so: that no two things of the notes share a byte.
+fn is_static_apart(notes: &Notes, apart: bool, number: usize, x: &Static, size: u64) -> bool
     requires there { slice_get notes.now.statics number ≡ Some x.now }
     requires size { size ≤ 2 ^ 40 }
-    requires apart { number < apart → IsStaticApart notes.now number x.now.place size }
+    requires apart { IsTrue apart → IsStaticApart notes.now number x.now.place size }
     ensures { IsTrue result ↔ IsStaticApart notes.now number x.now.place size }
 {
-    if number < apart {
+    if apart {
         return true;
     }
     is_apart_from_functions(notes.function.as_slice(), x.place, size)
@@ -33,7 +33,7 @@ fn is_static_apart(notes: &Notes, apart: usize, number: usize, x: &Static, size:
 fn shaped_holds(
     image: &Image,
     notes: &Notes,
-    apart: usize,
+    apart: bool,
     number: usize,
     x: &Static,
     s: &Shape,
@@ -43,7 +43,7 @@ fn shaped_holds(
     requires shapes { (k : ℕ) → ShapeHolds notes.now k }
     requires there { slice_get notes.now.statics number ≡ Some x.now }
     requires shape { slice_get notes.now.shape x.now.shape ≡ Some s.now }
-    requires apart { ShareNoByteBelow notes.now apart }
+    requires apart { IsTrue apart → AreAllApart notes.now }
     ensures { IsTrue result ↔ IsStatic image.now notes.now number x.now s.now }
 {
     let Some(size) = extent_inside(image, x, s) else {
@@ -56,12 +56,12 @@ fn shaped_holds(
 }
 
 // Whether the rule holds of a static object.
-fn static_holds(image: &Image, notes: &Notes, apart: usize, number: usize, x: &Static) -> bool
+fn static_holds(image: &Image, notes: &Notes, apart: bool, number: usize, x: &Static) -> bool
     requires image { IsImage image.now }
     requires notes { IsNotes notes.now }
     requires shapes { (k : ℕ) → ShapeHolds notes.now k }
     requires there { slice_get notes.now.statics number ≡ Some x.now }
-    requires apart { ShareNoByteBelow notes.now apart }
+    requires apart { IsTrue apart → AreAllApart notes.now }
     ensures { IsTrue result ↔ StaticFits image.now notes.now number x.now }
 {
     match notes.shape.as_slice().get(x.shape as usize) {
@@ -71,12 +71,12 @@ fn static_holds(image: &Image, notes: &Notes, apart: usize, number: usize, x: &S
 }
 
 // The number of the first of these static objects, all of the notes, of which the rule doesn't hold.
-fn first_static(image: &Image, notes: &Notes, apart: usize, statics: &[Static]) -> Option<usize>
+fn first_static(image: &Image, notes: &Notes, apart: bool, statics: &[Static]) -> Option<usize>
     requires image { IsImage image.now }
     requires notes { IsNotes notes.now }
     requires shapes { (k : ℕ) → ShapeHolds notes.now k }
     requires statics { statics.now ≡ notes.now.statics }
-    requires apart { ShareNoByteBelow notes.now apart }
+    requires apart { IsTrue apart → AreAllApart notes.now }
     ensures some { IfSome result (λ k. (k < length statics.now) × IsFirstFailing (StaticHolds image.now notes.now) k) }
     ensures none { IfNone result ((k : ℕ) → StaticHolds image.now notes.now k) }
 {
@@ -88,17 +88,17 @@ fn first_static(image: &Image, notes: &Notes, apart: usize, statics: &[Static]) 
     None
 }
 
-/// Whether the rule `static` holds of all static objects, where the rule of shapes holds. No thing of the notes that is numbered
-/// below `apart` shares a byte with another.
+/// Whether the rule `static` holds of all static objects, where the rule of shapes holds. `apart` may say only what is so:
+/// that no two things of the notes share a byte.
 ///
 /// # Errors
 ///
 /// The first static object of which it doesn't, by its number.
-pub fn check_statics(image: &Image, notes: &Notes, apart: usize) -> Result<(), usize>
+pub fn check_statics(image: &Image, notes: &Notes, apart: bool) -> Result<(), usize>
     requires image { IsImage image.now }
     requires notes { IsNotes notes.now }
     requires shapes { (k : ℕ) → ShapeHolds notes.now k }
-    requires apart { ShareNoByteBelow notes.now apart }
+    requires apart { IsTrue apart → AreAllApart notes.now }
     ensures holds { OnOk result ((k : ℕ) → StaticHolds image.now notes.now k) }
     ensures fails { IfErr result (λ k. (k < length notes.now.statics) × IsFirstFailing (StaticHolds image.now notes.now) k) }
 {

@@ -1,11 +1,11 @@
 //! The rule of thunk cells.
 
-ghost use Rattle.std.specs.Prelude.{◌≡◌, ◌+◌, ◌-◌, ◌%◌, ◌<◌, ◌≤◌, ◌↔◌, ◌^◌, ℕ, IfErr, IfNone, IfSome, IsTrue, OnOk, Some, length, slice_get};
+ghost use Rattle.std.specs.Prelude.{◌≡◌, ◌+◌, ◌%◌, ◌<◌, ◌≤◌, ◌↔◌, ◌^◌, ℕ, IfErr, IfNone, IfSome, IsTrue, OnOk, Some, length, slice_get};
 ghost use Rattle.ebc_width.specs.Bytes.{little_endian};
 ghost use Rattle.note_types.specs.Records.{IsNotes};
 ghost use Rattle.pe_image.specs.Images.{IsImage};
 ghost use Rattle.rules_image.specs.Images.{IsThunk, ThunkHolds, IsFirstFailing};
-ghost use Rattle.rules_image.specs.Checks.{ShareNoByteBelow, EntersFunction, EntersItsFunction, IsThunkApart};
+ghost use Rattle.rules_image.specs.Checks.{AreAllApart, EntersFunction, EntersItsFunction, IsThunkApart};
 ghost use Rattle.pe_image.specs.Mapped.{image_byte};
 
 use crate::apart::{is_apart_from_functions, is_apart_from_thunks};
@@ -64,14 +64,14 @@ fn enters_its_function(image: &Image, notes: &Notes, x: &Thunk) -> bool
     }
 }
 
-// Whether a thunk cell shares no byte with a function or a later thunk cell. Among all things of the notes, those numbered below
-// `apart` share none with another.
-fn is_thunk_apart(notes: &Notes, apart: usize, number: usize, x: &Thunk) -> bool
+// Whether a thunk cell shares no byte with a function or a later thunk cell. `apart` may say only what is so: that no two things
+// of the notes share a byte.
+fn is_thunk_apart(notes: &Notes, apart: bool, number: usize, x: &Thunk) -> bool
     requires there { slice_get notes.now.thunk number ≡ Some x.now }
-    requires apart { number < apart - length notes.now.statics → IsThunkApart notes.now number x.now.place }
+    requires apart { IsTrue apart → IsThunkApart notes.now number x.now.place }
     ensures { IsTrue result ↔ IsThunkApart notes.now number x.now.place }
 {
-    if number < apart.saturating_sub(notes.statics.len()) {
+    if apart {
         return true;
     }
     is_apart_from_functions(notes.function.as_slice(), x.place, 8)
@@ -79,10 +79,10 @@ fn is_thunk_apart(notes: &Notes, apart: usize, number: usize, x: &Thunk) -> bool
 }
 
 // Whether the rule holds of a thunk cell.
-fn thunk_holds(image: &Image, notes: &Notes, apart: usize, number: usize, x: &Thunk) -> bool
+fn thunk_holds(image: &Image, notes: &Notes, apart: bool, number: usize, x: &Thunk) -> bool
     requires image { IsImage image.now }
     requires there { slice_get notes.now.thunk number ≡ Some x.now }
-    requires apart { ShareNoByteBelow notes.now apart }
+    requires apart { IsTrue apart → AreAllApart notes.now }
     ensures { IsTrue result ↔ IsThunk image.now notes.now number x.now }
 {
     if u64::from(x.place) + 8 > u64::from(image.size) {
@@ -95,10 +95,10 @@ fn thunk_holds(image: &Image, notes: &Notes, apart: usize, number: usize, x: &Th
 }
 
 // The number of the first of these thunk cells, all of the notes, of which the rule doesn't hold.
-fn first_thunk(image: &Image, notes: &Notes, apart: usize, thunks: &[Thunk]) -> Option<usize>
+fn first_thunk(image: &Image, notes: &Notes, apart: bool, thunks: &[Thunk]) -> Option<usize>
     requires image { IsImage image.now }
     requires thunks { thunks.now ≡ notes.now.thunk }
-    requires apart { ShareNoByteBelow notes.now apart }
+    requires apart { IsTrue apart → AreAllApart notes.now }
     ensures some { IfSome result (λ k. (k < length thunks.now) × IsFirstFailing (ThunkHolds image.now notes.now) k) }
     ensures none { IfNone result ((k : ℕ) → ThunkHolds image.now notes.now k) }
 {
@@ -110,15 +110,15 @@ fn first_thunk(image: &Image, notes: &Notes, apart: usize, thunks: &[Thunk]) -> 
     None
 }
 
-/// Whether the rule `static` holds of all thunk cells. No thing of the notes that is numbered below `apart` shares a byte with
-/// another.
+/// Whether the rule `static` holds of all thunk cells. `apart` may say only what is so: that no two things of the notes
+/// share a byte.
 ///
 /// # Errors
 ///
 /// The first thunk cell of which it doesn't, by its number.
-pub fn check_thunks(image: &Image, notes: &Notes, apart: usize) -> Result<(), usize>
+pub fn check_thunks(image: &Image, notes: &Notes, apart: bool) -> Result<(), usize>
     requires image { IsImage image.now }
-    requires apart { ShareNoByteBelow notes.now apart }
+    requires apart { IsTrue apart → AreAllApart notes.now }
     ensures holds { OnOk result ((k : ℕ) → ThunkHolds image.now notes.now k) }
     ensures fails { IfErr result (λ k. (k < length notes.now.thunk) × IsFirstFailing (ThunkHolds image.now notes.now) k) }
 {

@@ -1,10 +1,10 @@
 //! The check of an image under notes: the verdict, with a store for the order of the notes' things.
 
-ghost use Rattle.std.specs.Prelude.{◌≡◌, ◌<◌, ◌≤◌, ◌↔◌, ℕ, IfErr, IfOk, OnOk, length, slice_index, vec_len};
+ghost use Rattle.std.specs.Prelude.{◌≡◌, ◌<◌, ◌≤◌, ◌↔◌, ℕ, IfErr, IfOk, IsTrue, OnOk, length, slice_index, vec_len};
 ghost use Rattle.note_types.specs.Records.{IsNotes};
 ghost use Rattle.note_types.specs.declared.rule.RuleName.{RuleName};
 ghost use Rattle.pe_image.specs.Images.{IsImage};
-ghost use Rattle.rules_image.specs.Checks.{ShareNoByteBelow, things};
+ghost use Rattle.rules_image.specs.Checks.{AreAllApart, things};
 ghost use Rattle.rules_image.specs.Images.{FunctionHolds, ShapeHolds};
 ghost use Rattle.width_checker.specs.Typed.{TablesHold, Typed};
 ghost use Rattle.width_checker.specs.Verdicts.{IsRefused, IsVerdict};
@@ -15,7 +15,7 @@ use ebc_base::NoMemory;
 use note_types::{Notes, RuleName};
 use pe_image::Image;
 use plain_check::Verdict;
-use rules_image::{apart_below, check_functions, check_shapes, check_statics, check_thunks};
+use rules_image::{all_apart, check_functions, check_shapes, check_statics, check_thunks};
 use std::alloc::Global;
 
 /// What a check sorts in: room for the numbers of all static objects, thunk cells and functions of the notes.
@@ -33,14 +33,13 @@ fn count_things(notes: &Notes) -> usize
     notes.statics.len() + notes.thunk.len() + notes.function.len()
 }
 
-// Goes over static objects, then thunk cells, where the rules of shapes and functions hold. No thing of the notes that is numbered
-// below `apart` shares a byte with another.
-fn check_objects(image: &Image, notes: &Notes, apart: usize) -> Result<(), Refusal>
+// Goes over static objects, then thunk cells, where the rules of shapes and functions hold.
+fn check_objects(image: &Image, notes: &Notes, apart: bool) -> Result<(), Refusal>
     requires image { IsImage image.now }
     requires notes { IsNotes notes.now }
     requires shapes { (k : ℕ) → ShapeHolds notes.now k }
     requires functions { (k : ℕ) → FunctionHolds image.now notes.now k }
-    requires apart { ShareNoByteBelow notes.now apart }
+    requires apart { IsTrue apart → AreAllApart notes.now }
     ensures holds { OnOk result (TablesHold image.now notes.now) }
     ensures fails { IfErr result (λ r. IsRefused image.now notes.now r.place r.rule) }
 {
@@ -83,7 +82,7 @@ fn check_tables(image: &Image, notes: &Notes, order: &mut [u32]) -> Result<(), R
         });
     }
     let count = count_things(notes);
-    let apart = apart_below(notes, &mut order[..count]);
+    let apart = all_apart(notes, &mut order[..count]);
     check_objects(image, notes, apart)
 }
 

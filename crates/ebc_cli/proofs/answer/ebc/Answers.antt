@@ -4,8 +4,7 @@ use Rattle.ebc_cli.proofs.AnswerLaws.{all-asked, answers, done, leaves-part, mis
 use Rattle.ebc_cli.proofs.VerdictLaws.{code-alike, code-neutral, code-refused, image-alike, image-neutral, image-refused}
 use Rattle.ebc_cli.proofs.{InferLaws.points-exactly, InferLaws.points-typed, InferLaws.stuck-exactly, RunLaws.pair-alike}
 use Rattle.ebc_cli.proofs.{RunLaws.pair-exactly, RunLaws.pair-same, RunLaws.twin-exactly, RunLaws.twin-same, StopLaws.completes}
-use Rattle.ebc_cli.proofs.{MissingLaws.missing-exactly, StopLaws.numbers-exactly, StopLaws.roms-exactly, StopLaws.stops-exactly}
-use Rattle.ebc_cli.proofs.StopLaws.{unput}
+use Rattle.ebc_cli.proofs.StopLaws.{numbers-exactly, roms-exactly, stops-exactly, unput}
 use Rattle.ebc_cli.proofs.answer.ebc.Goals as goal
 
 pub returns-in-Ok-clause-answer : goal.returns-in-Ok-clause-answer
@@ -28,10 +27,6 @@ returns-in-Ok-clause-neutral_exactly g c = told _ _ _ _ _ _ _ _ c.in-Ok.ensures.
 pub returns-in-Ok-clause-refused_exactly : goal.returns-in-Ok-clause-refused_exactly
 returns-in-Ok-clause-refused_exactly g c = told _ _ _ _ _ _ _ _ c.in-Ok.ensures.decided c.finish.ensures.answer c.finish.ensures.text
     (λ files. image-refused)
-
-pub returns-in-Ok-clause-missing_exactly : goal.returns-in-Ok-clause-missing_exactly
-returns-in-Ok-clause-missing_exactly g c = told _ _ _ _ _ _ _ _ c.in-Ok.ensures.decided c.finish.ensures.answer c.finish.ensures.text
-    (λ files. missing-exactly)
 
 pub returns-in-Ok-clause-neutral_alike : goal.returns-in-Ok-clause-neutral_alike
 returns-in-Ok-clause-neutral_alike g c = done _ _ _ _ _ _ _ _ c.in-Ok.ensures.decided c.finish.ensures.answer c.finish.ensures.text

@@ -16,8 +16,7 @@ is_static_apart-requires c = record {
   size = let h = c.in-Some.ensures.some.1 in omega arith;
   apart = λ e.
       subst (λ n. IsStaticApart c.args.notes.now c.args.number c.args.x.now.place n) (sym c.in-Some.ensures.some.0)
-      (static_apart c.args.notes.now c.args.number c.args.apart c.args.x.now c.args.s.now c.requires.apart e c.requires.there
-      c.requires.shape);
+      (static_apart c.args.notes.now c.args.number c.args.x.now c.args.s.now (c.requires.apart e) c.requires.there c.requires.shape);
 }
 
 pub returns-then-not-is_static_apart : goal.returns-then-not-is_static_apart

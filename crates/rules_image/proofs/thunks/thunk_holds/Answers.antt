@@ -4,8 +4,7 @@ use Rattle.rules_image.proofs.ThunkLaws.{apart_of, enters_of, thunk_of}
 use Rattle.rules_image.proofs.thunks.thunk_holds.Goals as goal
 
 pub is_thunk_apart-requires-clause-apart : goal.is_thunk_apart-requires-clause-apart
-is_thunk_apart-requires-clause-apart c =
-    λ e. thunk_apart c.args.notes.now c.args.number c.args.apart c.args.x.now c.requires.apart (omega (arith, e)) c.requires.there
+is_thunk_apart-requires-clause-apart c = λ e. thunk_apart c.args.notes.now c.args.number c.args.x.now (c.requires.apart e) c.requires.there
 
 pub returns-then-not-is_thunk_apart : goal.returns-then-not-is_thunk_apart
 returns-then-not-is_thunk_apart c =
